@@ -1,0 +1,5 @@
+pub mod Quotients
+pub mod Products
+pub mod Integers
+pub mod Sums
+pub mod Exact
