@@ -3,3 +3,4 @@ pub mod Products
 pub mod Integers
 pub mod Sums
 pub mod Exact
+pub mod Growing

@@ -1,6 +1,7 @@
 -- Sums over lists, and over the entries of a finite map.
-use Rattle.std.proofs.Common.{◌≡◌, ℕ, ◌+◌, Bool, true, false, cond, ◌&&◌, T, ℤ, pos, ◌+ℤ◌, ◌-ℤ◌, ◌*ℤ◌, List, [], ◌∷◌, ◌++◌, Option, Some, None, refl, ap, ◌∙◌, arith, map, fold, sum_by}
+use Rattle.std.proofs.Common.{◌≡◌, ℕ, ◌+◌, Bool, true, false, cond, ◌&&◌, T, ℤ, pos, ◌+ℤ◌, ◌-ℤ◌, ◌*ℤ◌, List, [], ◌∷◌, ◌++◌, Option, Some, None, refl, ap, ◌∙◌, arith, map, fold, sum_by, ◌<◌, take, get_or, length}
 use Rattle.std.proofs.lemmas.Int.{ints}
+use Rattle.std.proofs.lemmas.List.{take_more}
 use Rattle.std.specs.Option.{option_map_or}
 use Rattle.std.specs.Ordering.{is_lt, is_eq}
 use Rattle.std.specs.Cmp.{IsTotalOrder}
@@ -115,3 +116,17 @@ pub int_sum-less : {X : Type 0} (f g h : X → ℤ) (d : ℤ) (xs : List X) → 
 int_sum-less f g h d [] e = omega (arith, ints)
 int_sum-less f g h d (x ∷ xs) e =
     sum_parts (f x) (g x) (pos 0) (int_sum_by f xs) (int_sum_by g xs) (d *ℤ (h x +ℤ int_sum_by h xs)) (d *ℤ h x) (d *ℤ int_sum_by h xs) (e x) (int_sum-less f g h d xs e) (times-plus d (h x) (int_sum_by h xs))
+
+-- the sum over a front with one element more
+pub int_sum-take_more : {X : Type 0} (f : X → ℤ) (xs : List X) (i : ℕ) (d : X) → i < length xs → int_sum_by f (take (i + 1) xs) ≡ int_sum_by f (take i xs) +ℤ f (get_or xs i d)
+int_sum-take_more f xs i d h =
+    let e : int_sum_by f (take i xs ++ get_or xs i d ∷ []) ≡ int_sum_by f (take i xs) +ℤ int_sum_by f (get_or xs i d ∷ []) = int_sum-append f (take i xs) (get_or xs i d ∷ []) in
+    rw (take_more xs i d h) (omega (arith, ints, e))
+
+-- a running sum goes on by one element
+pub sum_step : {X : Type 0} (f : X → ℤ) (sum part next : ℤ) (xs : List X) (i : ℕ) (d : X) → i < length xs → sum ≡ int_sum_by f (take i xs) → next ≡ sum +ℤ part → part ≡ f (get_or xs i d) → next ≡ int_sum_by f (take (i + 1) xs)
+sum_step f sum part next xs i d h s n p = omega (arith, ints, int_sum-take_more f xs i d h, s, n, p)
+
+-- and one that began with a number
+pub sum_step_from : {X : Type 0} (f : X → ℤ) (q sum part next : ℤ) (xs : List X) (i : ℕ) (d : X) → i < length xs → sum ≡ q +ℤ int_sum_by f (take i xs) → next ≡ sum +ℤ part → part ≡ f (get_or xs i d) → next ≡ q +ℤ int_sum_by f (take (i + 1) xs)
+sum_step_from f q sum part next xs i d h s n p = omega (arith, ints, int_sum-take_more f xs i d h, s, n, p)

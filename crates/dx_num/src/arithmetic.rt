@@ -42,6 +42,7 @@ pub fn negative(a: i128) -> i128
 pub fn magnitude(a: i128) -> i128
     requires { unsigned_abs a < 2 ^ 127 }
     ensures value { result ≡ pos (unsigned_abs a) }
+    ensures magnitude { unsigned_abs result ≡ unsigned_abs a }
 {
     a.abs()
 }

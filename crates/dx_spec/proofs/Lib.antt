@@ -1,0 +1,5 @@
+pub mod Steps
+pub mod Lists
+pub mod Maps
+pub mod Accounts
+pub mod Parts
