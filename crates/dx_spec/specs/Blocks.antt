@@ -1,5 +1,5 @@
 -- A block on a state, and a list of blocks.
-use Rattle.std.specs.Prelude.{ℕ, ◌+◌, Bool, true, false, not, ◌&&◌, ◌||◌, ◌==◌, nat_lt, nat_le, if◌then◌else◌, ℤ, pos, unsigned_abs, List, [], ◌∷◌, ◌++◌, map, zip, length, sum_by, Option, Some, None, Result, Ok, slice_get}
+use Rattle.std.specs.Prelude.{ℕ, ◌+◌, Bool, true, false, not, ◌&&◌, ◌||◌, ◌==◌, nat_lt, nat_le, if◌then◌else◌, pos, List, [], ◌∷◌, ◌++◌, map, zip, length, sum_by, Option, Some, None, Result, Ok, slice_get}
 use Rattle.std.specs.Option.{option_map_or}
 use Rattle.std.specs.FinMap.{get, retain_keys}
 use Rattle.dx_types.specs.declared.OrderId.{OrderId}

@@ -1,7 +1,6 @@
 -- What a ledger finds in its maps by a test.
-use Rattle.std.specs.Prelude.{ℕ, Bool, if◌then◌else◌, nat_lt, ℤ, neg_ℤ, List, map, filter, find, Option, option_map}
+use Rattle.std.specs.Prelude.{ℕ, Bool, if◌then◌else◌, nat_lt, neg_ℤ, List, map, filter, find, Option, option_map}
 use Rattle.std.specs.FinMap.{entries}
-use Rattle.dx_types.specs.declared.SubaccountId.{SubaccountId}
 use Rattle.dx_types.specs.declared.OrderId.{OrderId}
 use Rattle.dx_types.specs.declared.Account.{Account}
 use Rattle.dx_types.specs.declared.Offset.{Offset}

@@ -15,7 +15,6 @@ use Rattle.dx_types.specs.declared.MarketInfo.{MarketInfo}
 use Rattle.dx_types.specs.declared.Genesis.{Genesis}
 use Rattle.dx_types.specs.declared.Clock.{Clock}
 use Rattle.dx_types.specs.declared.Funds.{Funds}
-
 use Rattle.dx_spec.specs.Bounds.{sample_epoch, funding_epoch}
 
 -- what blocks change; a market's number is its place in markets, votes and samples
