@@ -1,0 +1,11 @@
+pub mod Literals
+pub mod Deposits
+pub mod Refusals
+pub mod Fees
+pub mod FirstBadFill
+pub mod FundingHour
+pub mod Liquidations
+pub mod Deleveraging
+pub mod Replacements
+pub mod Strangers
+pub mod OrdersAndFolds

@@ -1,0 +1,11 @@
+pub mod Values
+pub mod Deposits
+pub mod Refusals
+pub mod Fees
+pub mod FirstBadFill
+pub mod Funding
+pub mod Liquidations
+pub mod Deleveraging
+pub mod Replacements
+pub mod Strangers
+pub mod Laws
