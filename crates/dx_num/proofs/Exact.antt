@@ -28,7 +28,8 @@ pub times_less : (b x y : ℤ) → pos 0 <ℤ b → (b *ℤ x) <ℤ (b *ℤ y) �
 times_less (pos m) x y p h = times_less_by m x y (x -ℤ y) refl h
 times_less (negsuc m) x y p h = absurd (omega (arith, ints))
 
-one_more : (b q : ℤ) → b *ℤ (q +ℤ pos 1) ≡ (b *ℤ q) +ℤ b
+-- a product with one more
+pub one_more : (b q : ℤ) → b *ℤ (q +ℤ pos 1) ≡ (b *ℤ q) +ℤ b
 one_more b q = let e : b *ℤ pos 1 ≡ b = omega (arith, ints) in omega (arith, ints, times-plus b q (pos 1), e)
 
 one_less : (b q : ℤ) → b *ℤ (q -ℤ pos 1) ≡ (b *ℤ q) -ℤ b

@@ -1,0 +1,4 @@
+pub mod Worths
+pub mod Lists
+pub mod Payments
+pub mod Endings

@@ -1,0 +1,80 @@
+//! The law that blocks keep a state sound: every number keeps its bound, and every record belongs to what
+//! stands.
+//!
+//! Each function's contract is a law over the definitions of the rules (`dx_spec`), and its body is empty. A
+//! state is sound where quotes, sizes, prices, funds, indices and counts are in their bounds, positions are
+//! multiples of their market's step, the ticks are the next ones since the genesis, votes and samples have room
+//! until then, and each record of what is filled belongs to an order that may still be filled. Conservation is
+//! the law of `dx_laws`; here it stands beside soundness where both are wanted.
+//!
+//! In the middle of a block a state is sound but for its clock, votes and samples (`SoundWithin`). Code that
+//! takes the operations and messages of a block one by one keeps just that, by the laws of single steps.
+#![tactic(auto)]
+
+ghost use Rattle.dx_sound.specs.Laws.{GenesisIsSound, BlockKeepsSound, BlockMovesOn, BlockKeepsBoth, BlocksAreSound, SoundIsWithin, SettleKeepsWithin, FillKeepsWithin, LiquidationKeepsWithin, OffsetKeepsWithin, OperationKeepsWithin, OperationsKeepWithin, MessageKeepsWithin};
+
+/// The state before the first block is sound, where the genesis is in its ranges.
+pub fn genesis_is_sound()
+    ensures { GenesisIsSound }
+{}
+
+/// A block that is not refused keeps a state sound. No range of the genesis is asked for, and no balance.
+pub fn block_keeps_sound()
+    ensures { BlockKeepsSound }
+{}
+
+/// A block leaves the genesis of a sound state, and its height and time become the state's.
+pub fn block_moves_on()
+    ensures { BlockMovesOn }
+{}
+
+/// A block keeps a state that is sound and balanced so.
+pub fn block_keeps_sound_and_balance()
+    ensures { BlockKeepsBoth }
+{}
+
+/// Every state that blocks lead to from a genesis in its ranges is sound and balanced.
+pub fn blocks_are_sound()
+    ensures { BlocksAreSound }
+{}
+
+/// A sound state is one in the middle of the next block, before its first operation.
+pub fn sound_is_within()
+    ensures { SoundIsWithin }
+{}
+
+/// Settling an account keeps a state sound in the middle of a block, and its orders fillable.
+pub fn settle_keeps_within()
+    ensures { SettleKeepsWithin }
+{}
+
+/// A fill of two orders that may be filled does.
+pub fn fill_keeps_within()
+    ensures { FillKeepsWithin }
+{}
+
+/// A fill of a liquidation does, against a maker that may be filled; that the liquidated account is kept is
+/// among the step's own tests.
+pub fn liquidation_keeps_within()
+    ensures { LiquidationKeepsWithin }
+{}
+
+/// An offset of a deleveraging does; that both accounts are kept is among the step's own tests.
+pub fn offset_keeps_within()
+    ensures { OffsetKeepsWithin }
+{}
+
+/// An operation of a later block does, and the orders that the block has placed stay fillable.
+pub fn operation_keeps_within()
+    ensures { OperationKeepsWithin }
+{}
+
+/// All operations of a later block do.
+pub fn operations_keep_within()
+    ensures { OperationsKeepWithin }
+{}
+
+/// A message does, at no earlier time: less than 2^60 quote quantums more are paid in, or out.
+pub fn message_keeps_within()
+    ensures { MessageKeepsWithin }
+{}
