@@ -17,7 +17,8 @@ pub mod Votes
 pub mod Ends
 pub mod Epochs
 pub mod Sounding
-pub mod Blocks
 pub mod Beginning
+pub mod Rooms
 pub mod Midway
+pub mod Blocks
 pub mod Both

@@ -1,5 +1,7 @@
--- Lists of which one element changes.
-use Rattle.std.proofs.Common.{◌≡◌, ℕ, zero, suc, List, [], ◌∷◌, map, Some, refl, ap, subst, slice_get}
+-- Lists of which one element changes, and what holds at each place.
+use Rattle.std.proofs.Common.{All, ◌≡◌, ℕ, zero, suc, List, [], ◌∷◌, map, Some, refl, ap, subst, slice_get}
+use Rattle.std.proofs.lemmas.Option.{same_Some}
+use Rattle.std.proofs.lemmas.List.Elements.{All-nil, All-cons, All-head, All-tail}
 use Rattle.dx_spec.specs.Lists.{changed_at}
 
 -- what holds at each place holds after the element at one is changed
@@ -17,3 +19,13 @@ pub map-changed_at : {X Y : Type 0} (f : X → Y) (xs : List X) (k : ℕ) (g : X
 map-changed_at f [] k g e = refl
 map-changed_at f (x ∷ xs) zero g e = ap (λ y. y ∷ map f xs) (e x)
 map-changed_at f (x ∷ xs) (suc k) g e = ap (λ ys. f x ∷ ys) (map-changed_at f xs k g e)
+
+-- what holds of the element at each place holds of each element
+pub all_at : {X : Type 0} (P : X → Type 0) (xs : List X) → ((n : ℕ) (x : X) → slice_get xs n ≡ Some x → P x) → All P xs
+all_at P [] h = All-nil P
+all_at P (x ∷ xs) h = All-cons P x xs (h 0 x refl) (all_at P xs (λ n y e. h (suc n) y e))
+
+pub at_all : {X : Type 0} (P : X → Type 0) (xs : List X) → All P xs → (n : ℕ) (x : X) → slice_get xs n ≡ Some x → P x
+at_all P [] h n x e = absurd (cc)
+at_all P (y ∷ xs) h zero x e = subst P (same_Some y x e) (All-head P y xs h)
+at_all P (y ∷ xs) h (suc n) x e = at_all P xs (All-tail P y xs h) n x e

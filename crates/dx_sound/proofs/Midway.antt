@@ -1,5 +1,5 @@
 -- The steps of a block keep a state sound in the middle of the block.
-use Rattle.std.proofs.Common.{◌≡◌, ℕ, ◌+◌, ◌^◌, ◌<◌, ◌≤◌, List, Some, None, Ok, refl, sym, ap, subst, ◌∙◌}
+use Rattle.std.proofs.Common.{◌≡◌, ℕ, ◌+◌, ◌*◌, ◌^◌, ◌<◌, ◌≤◌, List, length, map, Option, Some, None, Ok, refl, sym, ap, subst, ◌∙◌}
 use Rattle.std.proofs.lemmas.Bool.{eqb-false, ne_eqb, both_ways}
 use Rattle.std.specs.FinMap.{get}
 use Rattle.dx_types.specs.declared.SubaccountId.{SubaccountId}
@@ -7,22 +7,29 @@ use Rattle.dx_types.specs.declared.Order.{Order}
 use Rattle.dx_types.specs.declared.Offset.{Offset}
 use Rattle.dx_types.specs.declared.Op.{Op}
 use Rattle.dx_types.specs.declared.Msg.{Msg}
+use Rattle.dx_types.specs.declared.Vote.{Vote}
+use Rattle.dx_types.specs.declared.PriceUpdate.{PriceUpdate}
 use Rattle.dx_spec.specs.State.{State, is_kept, is_short_term}
+use Rattle.dx_spec.specs.Bounds.{last_moment}
 use Rattle.dx_spec.specs.Accounts.{settle_step}
 use Rattle.dx_spec.specs.Fills.{fill_step}
 use Rattle.dx_spec.specs.Liquidation.{liquidate_step}
 use Rattle.dx_spec.specs.Deleveraging.{delever_step}
 use Rattle.dx_spec.specs.Operations.{Placed, Progress, op_step, ops_step}
-use Rattle.dx_spec.specs.Messages.{message_step}
-use Rattle.dx_sound.specs.Within.{SoundWithin, IsFillable, SameBase, StepKeeps, AllPlaced}
-use Rattle.dx_sound.proofs.Holding.{Parts, Frame, Held, StandsWell, IsHeldOrder}
+use Rattle.dx_spec.specs.Messages.{message_step, messages}
+use Rattle.dx_spec.specs.Blocks.{votes_step, prices_step, end_step}
+use Rattle.dx_spec.specs.Balance.{Sound}
+use Rattle.dx_sound.specs.Within.{SoundWithin, IsFillable, SameBase, StepKeeps, HasRoom, last_voted, AllPlaced, most_paid}
+use Rattle.dx_sound.proofs.Holding.{Parts, parts_of, Frame, Held, StandsWell, IsHeldOrder}
 use Rattle.dx_sound.proofs.Settlement.{Held-settle_step}
 use Rattle.dx_sound.proofs.Fills.{Held-fill_step}
 use Rattle.dx_sound.proofs.Closes.{Held-liquidate_step, Held-delever_step}
 use Rattle.dx_sound.proofs.Running.{with_stateful, HeldPlaced, IsRunning, IsRunning-op_step, Held-ops_step}
-use Rattle.dx_sound.proofs.Messages.{with_kept, with_most, told_from, IsTold-message_step}
-use Rattle.dx_sound.proofs.Wholes.{own, IsWhole, IsWhole-told}
-use Rattle.dx_sound.proofs.Sounding.{IsWhole-SoundWithin, SoundWithin-IsWhole}
+use Rattle.dx_sound.proofs.Messages.{with_kept, with_most, IsTold, told_from, IsTold-message_step, IsTold-messages}
+use Rattle.dx_sound.proofs.Wholes.{own, IsWhole, IsWhole-told, IsWhole-prices_step}
+use Rattle.dx_sound.proofs.Votes.{IsVoted-votes_step}
+use Rattle.dx_sound.proofs.Sounding.{SoundWithin-Sound, IsWhole-SoundWithin, SoundWithin-IsWhole}
+use Rattle.dx_sound.proofs.Rooms.{HasRoom-Sound, HasRoom-IsVoted, IsAfter-end_step}
 
 -- a state that is held against any parts is sound in the middle of a block
 within : (f : Frame) (s : State) → Held f None s → StandsWell f → SoundWithin f.most s
@@ -41,12 +48,23 @@ stay_fillable most s t h o w = record {
   stateful = λ d. subst (λ (p : Parts). get p.stateful o.id ≡ Some o) (sym h.parts) (w.stateful d);
 }
 
-same_base : (f : Frame) (s t : State) → f.parts.genesis ≡ s.genesis → f.parts.clock ≡ s.clock → Held f None t → SameBase s t
-same_base f s t e g h = record { genesis = ap (λ (p : Parts). p.genesis) h.parts ∙ e; clock = ap (λ (p : Parts). p.clock) h.parts ∙ g }
+-- a state that is held against the parts of another, but for its stateful orders
+same_base : (f : Frame) (s t : State) → f.parts ≡ record (parts_of s) { stateful = f.parts.stateful }
+    → map (λ m. m.params) s.markets ≡ s.genesis.params.markets
+    → Held f None t → SameBase s t
+same_base f s t e g h =
+    let p = h.parts ∙ e in
+    record {
+      genesis = ap (λ (x : Parts). x.genesis) p;
+      clock = ap (λ (x : Parts). x.clock) p;
+      params = h.params ∙ ap (λ (x : Parts). x.genesis.params.markets) e ∙ sym g;
+      votes = ap (λ (x : Parts). x.votes) p;
+      samples = ap (λ (x : Parts). x.samples) p;
+    }
 
 -- all of it, after a step
 after_step : (most : ℕ) (s t : State) → IsWhole most s → Held (own s most) None t → StepKeeps most s t
-after_step most s t r h = record { within = within (own s most) t h r.stands; base = same_base (own s most) s t refl refl h; fillable = stay_fillable most s t h }
+after_step most s t r h = record { within = within (own s most) t h r.stands; base = same_base (own s most) s t refl r.held.params h; fillable = stay_fillable most s t h }
 
 pub SoundWithin-settle_step : (most : ℕ) (s : State) (who : SubaccountId) (t : State) → SoundWithin most s → settle_step s who ≡ Some t
     → StepKeeps most s t
@@ -62,8 +80,8 @@ SoundWithin-fill_step most s taker maker amount t h w x e =
     after_step most s t r (Held-fill_step (own s most) s taker maker amount t (held_order most s taker w) (held_order most s maker x) r.held e)
 
 pub SoundWithin-liquidate_step : (most : ℕ) (s : State) (who : SubaccountId) (market : ℕ) (maker : Order) (amount : ℕ) (t : State)
-    → SoundWithin most s → IsFillable s maker
-    → liquidate_step s who market maker amount ≡ Ok t → StepKeeps most s t
+    → SoundWithin most s
+    → IsFillable s maker → liquidate_step s who market maker amount ≡ Ok t → StepKeeps most s t
 SoundWithin-liquidate_step most s who market maker amount t h w e =
     let r = IsWhole-SoundWithin most s h in
     after_step most s t r (Held-liquidate_step (own s most) s who market maker amount t (held_order most s maker w) r.held e)
@@ -97,7 +115,8 @@ SoundWithin-op_step most height op p q l h a e =
     let f = own p.state most in
     let r = IsWhole-SoundWithin most p.state h in
     let i : IsRunning f q = IsRunning-op_step f height op p q l (record { held = r.held; stands = r.stands; placed = held_placed most p.state p.placed a }) e in
-    (within (with_stateful f q.state.stateful) q.state i.held i.stands, same_base (with_stateful f q.state.stateful) p.state q.state refl refl i.held, all_placed f q.state q.placed i.held i.placed)
+    let g = with_stateful f q.state.stateful in
+    (within g q.state i.held i.stands, same_base g p.state q.state refl h.params i.held, all_placed f q.state q.placed i.held i.placed)
 
 pub SoundWithin-ops_step : (most : ℕ) (s : State) (height : ℕ) (ops : List Op) (t : State) → s.clock.height < height → SoundWithin most s
     → ops_step s height ops ≡ Ok t → SoundWithin most t × SameBase s t
@@ -105,12 +124,42 @@ SoundWithin-ops_step most s height ops t l h e =
     let f = own s most in
     let r = IsWhole-SoundWithin most s h in
     let i = Held-ops_step f s height ops t l r.held r.stands e in
-    (within (with_stateful f t.stateful) t i.0 i.1, same_base (with_stateful f t.stateful) s t refl refl i.0)
+    let g = with_stateful f t.stateful in
+    (within g t i.0 i.1, same_base g s t refl h.params i.0)
+
+-- after messages
+told_within : (most : ℕ) (s t : State) (more : ℕ) → SoundWithin most s → IsTold (own s most) more t → SoundWithin more t × SameBase s t
+told_within most s t more h i =
+    (SoundWithin-IsWhole more t (IsWhole-told (own s most) more t i), same_base (with_most (with_kept (with_stateful (own s most) t.stateful) (is_kept t)) more) s t refl h.params i.held)
+
+told_first : (most : ℕ) (s : State) → SoundWithin most s → IsTold (own s most) most s
+told_first most s h = let r = IsWhole-SoundWithin most s h in record { held = r.held; stands = r.stands }
 
 pub SoundWithin-message_step : (most : ℕ) (s : State) (time : ℕ) (m : Msg) (t : State) → s.clock.time ≤ time → SoundWithin most s
     → message_step s time m ≡ Ok t → SoundWithin (most + 2 ^ 60) t × SameBase s t
-SoundWithin-message_step most s time m t l h e =
-    let f = own s most in
-    let r = IsWhole-SoundWithin most s h in
-    let i = IsTold-message_step f most s time m t l (record { held = r.held; stands = r.stands }) e in
-    (SoundWithin-IsWhole (most + 2 ^ 60) t (IsWhole-told f (most + 2 ^ 60) t i), same_base (with_most (with_kept (with_stateful f t.stateful) (is_kept t)) (most + 2 ^ 60)) s t refl refl i.held)
+SoundWithin-message_step most s time m t l h e = told_within most s t (most + 2 ^ 60) h (IsTold-message_step (own s most) most s time m t l (told_first most s h) e)
+
+pub SoundWithin-messages : (most : ℕ) (s : State) (time : ℕ) (ms : List Msg) → s.clock.time ≤ time → SoundWithin most s
+    → SoundWithin (most + 2 ^ 60 * length ms) (messages s time ms).0 × SameBase s (messages s time ms).0
+SoundWithin-messages most s time ms l h =
+    told_within most s (messages s time ms).0 (most + 2 ^ 60 * length ms) h (IsTold-messages (own s most) most s time ms l (told_first most s h))
+
+pub SoundWithin-votes_step : (most : ℕ) (before : Option ℕ) (n : ℕ) (vs : List Vote) (s t : State) → SoundWithin most s → HasRoom before s
+    → votes_step before n vs s ≡ Ok t → SoundWithin most t × HasRoom (last_voted before vs) t × (t.genesis ≡ s.genesis) × (t.clock ≡ s.clock)
+SoundWithin-votes_step most before n vs s t h r e =
+    let i = IsVoted-votes_step most before n vs s t (IsWhole-SoundWithin most s h) r.votes e in
+    (SoundWithin-IsWhole most t i.whole, HasRoom-IsVoted most before (last_voted before vs) s t r i, i.genesis, i.clock)
+
+pub SoundWithin-prices_step : (most : ℕ) (before : Option ℕ) (n : ℕ) (ps : List PriceUpdate) (s t : State) → SoundWithin most s
+    → prices_step before n ps s ≡ Ok t → SoundWithin most t × SameBase s t
+SoundWithin-prices_step most before n ps s t h e =
+    let i = IsWhole-prices_step most before n ps s t (IsWhole-SoundWithin most s h) e in
+    (SoundWithin-IsWhole most t i.0, i.1)
+
+pub Sound-end_step : (before : Option ℕ) (s : State) (height time : ℕ) → height ≤ last_moment → s.clock.time < time → time ≤ last_moment
+    → SoundWithin (most_paid height) s → HasRoom before s → Sound (end_step s height time)
+Sound-end_step before s height time l m n h r = (IsAfter-end_step before s height time l m n (IsWhole-SoundWithin (most_paid height) s h) r).sound
+
+-- a sound state before a block
+pub within_first : (s : State) → Sound s → SoundWithin (most_paid s.clock.height) s × HasRoom None s
+within_first s h = (SoundWithin-Sound s h, HasRoom-Sound s h)

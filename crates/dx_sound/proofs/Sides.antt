@@ -21,7 +21,7 @@ use Rattle.dx_sound.proofs.Holding.{IsAmountIn, IsHeldRecord, IsHeldOrder, Frame
 use Rattle.dx_sound.proofs.Trades.{option_cases, amount_parts, parts_amount, mapped_some, trades, Held-trade}
 
 -- the state after a side has traded and paid its fee, with the order filled
-abbrev pub side_state : State → Order → ℕ → ℤ → ℕ → State
+abbrev side_state : State → Order → ℕ → ℤ → ℕ → State
 side_state u o amount whole ppm = with_filled (record u { funds = with_charge u.funds (charge whole ppm) }) o amount
 
 -- what is filled of an id is a multiple of the step of its market

@@ -12,6 +12,7 @@ use Rattle.dx_spec.specs.Bounds.{is_price, is_size, is_worth, is_open_interest}
 use Rattle.dx_spec.specs.Margin.{value}
 use Rattle.dx_spec.specs.Blocks.{bad, is_above, is_price_of, prices_step}
 use Rattle.dx_spec.proofs.Steps.{ok_same, true_from_not}
+use Rattle.dx_sound.specs.Within.{SameBase}
 use Rattle.dx_sound.proofs.Scripts.{passes}
 use Rattle.dx_sound.proofs.Lists.{at_changed, map-changed_at}
 use Rattle.dx_sound.proofs.Holding.{Parts, parts_of, IsHeldMarket, Frame, Held, StandsWell}
@@ -85,23 +86,25 @@ priced_whole most s k price x r =
       stands = r.stands;
     }
 
--- what the prices leave: everything but the markets, of which there are as many
-pub record IsPriced (most : ℕ) (s t : State) : Type 0 where
-  pub whole : IsWhole most t
-  pub genesis : t.genesis ≡ s.genesis
-  pub clock : t.clock ≡ s.clock
-  pub votes : t.votes ≡ s.votes
-  pub samples : t.samples ≡ s.samples
-
 -- the prices of a block
-pub IsPriced-prices_step : (most : ℕ) (before : Option ℕ) (n : ℕ) (ps : List PriceUpdate) (s t : State) → IsWhole most s
-    → prices_step before n ps s ≡ Ok t → IsPriced most s t
+pub IsWhole-prices_step : (most : ℕ) (before : Option ℕ) (n : ℕ) (ps : List PriceUpdate) (s t : State) → IsWhole most s
+    → prices_step before n ps s ≡ Ok t
+    → IsWhole most t × SameBase s t
 unfolding prices_step
-IsPriced-prices_step most before n [] s t r e = subst (IsPriced most s) (ok_same s t e) (record { whole = r; genesis = refl; clock = refl; votes = refl; samples = refl })
-IsPriced-prices_step most before n (p ∷ ps) s t r e =
-    let a = passes (bad prices_part n bad_price) (not (option_map_or (λ m. is_price_of m p.price) (slice_get s.markets p.market) false && is_above before p.market)) _ t e in
-    let b = and_parts (option_map_or (λ m. is_price_of m p.price) (slice_get s.markets p.market) false) (is_above before p.market)
-    (true_from_not (option_map_or (λ m. is_price_of m p.price) (slice_get s.markets p.market) false && is_above before p.market) a.0) in
-    let i = IsPriced-prices_step most (Some p.market) (n + 1) ps (record s { markets = changed_at s.markets p.market (λ m. record m { price = p.price }) }) t
-    (priced_whole most s p.market p.price (mapped_true (λ m. is_price_of m p.price) (slice_get s.markets p.market) b.0) r) a.1 in
-    record { whole = i.whole; genesis = i.genesis; clock = i.clock; votes = i.votes; samples = i.samples }
+IsWhole-prices_step most before n [] s t r e =
+    subst (λ u. IsWhole most u × SameBase s u) (ok_same s t e) (r, record { genesis = refl; clock = refl; params = refl; votes = refl; samples = refl })
+IsWhole-prices_step most before n (p ∷ ps) s t r e =
+    let known = option_map_or (λ m. is_price_of m p.price) (slice_get s.markets p.market) false in
+    let a = passes (bad prices_part n bad_price) (not (known && is_above before p.market)) _ t e in
+    let b = and_parts known (is_above before p.market) (true_from_not (known && is_above before p.market) a.0) in
+    let i = IsWhole-prices_step most (Some p.market) (n + 1) ps (record s { markets = changed_at s.markets p.market (λ m. record m { price = p.price }) }) t
+    (priced_whole most s p.market p.price (mapped_true (λ m. is_price_of m p.price) (slice_get s.markets p.market) b.0) r) a.1 in (
+      i.0,
+      record {
+        genesis = i.1.genesis;
+        clock = i.1.clock;
+        params = i.1.params ∙ map-changed_at (λ m. m.params) s.markets p.market (λ m. record m { price = p.price }) (λ m. refl);
+        votes = i.1.votes;
+        samples = i.1.samples;
+      },
+    )

@@ -1,23 +1,26 @@
 -- What the rules keep: every number keeps its bound, and every record belongs to what stands.
-use Rattle.std.specs.Prelude.{◌≡◌, ℕ, ◌+◌, ◌^◌, ◌<◌, ◌≤◌, List, Some, Ok}
+use Rattle.std.specs.Prelude.{◌≡◌, ℕ, ◌+◌, ◌^◌, ◌<◌, ◌≤◌, List, Option, Some, None, Ok}
 use Rattle.dx_types.specs.declared.SubaccountId.{SubaccountId}
 use Rattle.dx_types.specs.declared.Order.{Order}
 use Rattle.dx_types.specs.declared.Offset.{Offset}
 use Rattle.dx_types.specs.declared.Op.{Op}
 use Rattle.dx_types.specs.declared.Msg.{Msg}
+use Rattle.dx_types.specs.declared.Vote.{Vote}
+use Rattle.dx_types.specs.declared.PriceUpdate.{PriceUpdate}
 use Rattle.dx_types.specs.declared.Genesis.{Genesis}
 use Rattle.dx_types.specs.declared.Block.{Block}
 use Rattle.dx_spec.specs.State.{State, genesis_state}
+use Rattle.dx_spec.specs.Bounds.{last_moment}
 use Rattle.dx_spec.specs.Accounts.{settle_step}
 use Rattle.dx_spec.specs.Fills.{fill_step}
 use Rattle.dx_spec.specs.Liquidation.{liquidate_step}
 use Rattle.dx_spec.specs.Deleveraging.{delever_step}
 use Rattle.dx_spec.specs.Operations.{Progress, op_step, ops_step}
 use Rattle.dx_spec.specs.Messages.{message_step}
-use Rattle.dx_spec.specs.Blocks.{block_step, fold_blocks}
+use Rattle.dx_spec.specs.Blocks.{votes_step, prices_step, end_step, block_step, fold_blocks}
 use Rattle.dx_spec.specs.Genesis.{IsGenesis}
 use Rattle.dx_spec.specs.Balance.{Balanced, Sound}
-use Rattle.dx_sound.specs.Within.{SoundWithin, IsFillable, SameBase, StepKeeps, AllPlaced, most_paid}
+use Rattle.dx_sound.specs.Within.{SoundWithin, IsFillable, SameBase, StepKeeps, HasRoom, last_voted, AllPlaced, most_paid}
 
 -- the state before the first block is sound
 abbrev pub GenesisIsSound : Type 0
@@ -40,9 +43,13 @@ BlockKeepsBoth = (s : State) (b : Block) (r : State × List ℕ) → Sound s →
 abbrev pub BlocksAreSound : Type 0
 BlocksAreSound = (g : Genesis) (bs : List Block) (t : State) → IsGenesis g → fold_blocks g bs ≡ Ok t → Sound t × Balanced t
 
--- a sound state is one in the middle of a block, before its first operation
+-- a sound state is one in the middle of a block, before its first operation, with room for the block's votes
 abbrev pub SoundIsWithin : Type 0
-SoundIsWithin = (s : State) → Sound s → SoundWithin (most_paid s.clock.height) s
+SoundIsWithin = (s : State) → Sound s → SoundWithin (most_paid s.clock.height) s × HasRoom None s
+
+-- what changes neither clock nor votes nor samples leaves that room
+abbrev pub RoomStays : Type 0
+RoomStays = (before : Option ℕ) (s t : State) → SameBase s t → HasRoom before s → HasRoom before t
 
 -- settling an account keeps a state sound in the middle of a block
 abbrev pub SettleKeepsWithin : Type 0
@@ -77,3 +84,18 @@ OperationsKeepWithin = (most : ℕ) (s : State) (height : ℕ) (ops : List Op) (
 abbrev pub MessageKeepsWithin : Type 0
 MessageKeepsWithin = (most : ℕ) (s : State) (time : ℕ) (m : Msg) (t : State) → s.clock.time ≤ time → SoundWithin most s
     → message_step s time m ≡ Ok t → SoundWithin (most + 2 ^ 60) t × SameBase s t
+
+-- votes do, and leave room past the market of the last one
+abbrev pub VotesKeepWithin : Type 0
+VotesKeepWithin = (most : ℕ) (before : Option ℕ) (n : ℕ) (vs : List Vote) (s t : State) → SoundWithin most s → HasRoom before s
+    → votes_step before n vs s ≡ Ok t → SoundWithin most t × HasRoom (last_voted before vs) t × (t.genesis ≡ s.genesis) × (t.clock ≡ s.clock)
+
+-- prices do
+abbrev pub PricesKeepWithin : Type 0
+PricesKeepWithin = (most : ℕ) (before : Option ℕ) (n : ℕ) (ps : List PriceUpdate) (s t : State) → SoundWithin most s
+    → prices_step before n ps s ≡ Ok t → SoundWithin most t × SameBase s t
+
+-- and the end of a block makes the state sound again
+abbrev pub EndMakesSound : Type 0
+EndMakesSound = (before : Option ℕ) (s : State) (height time : ℕ) → height ≤ last_moment → s.clock.time < time → time ≤ last_moment
+    → SoundWithin (most_paid height) s → HasRoom before s → Sound (end_step s height time)

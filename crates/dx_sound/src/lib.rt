@@ -7,11 +7,12 @@
 //! until then, and each record of what is filled belongs to an order that may still be filled. Conservation is
 //! the law of `dx_laws`; here it stands beside soundness where both are wanted.
 //!
-//! In the middle of a block a state is sound but for its clock, votes and samples (`SoundWithin`). Code that
-//! takes the operations and messages of a block one by one keeps just that, by the laws of single steps.
+//! In the middle of a block a state is sound but for its clock, votes and samples (`SoundWithin`), and these
+//! leave room until the next ticks (`HasRoom`). Code that takes the parts of a block one by one keeps just that,
+//! by the laws of single steps, and the end of the block makes the state sound again.
 #![tactic(auto)]
 
-ghost use Rattle.dx_sound.specs.Laws.{GenesisIsSound, BlockKeepsSound, BlockMovesOn, BlockKeepsBoth, BlocksAreSound, SoundIsWithin, SettleKeepsWithin, FillKeepsWithin, LiquidationKeepsWithin, OffsetKeepsWithin, OperationKeepsWithin, OperationsKeepWithin, MessageKeepsWithin};
+ghost use Rattle.dx_sound.specs.Laws.{GenesisIsSound, BlockKeepsSound, BlockMovesOn, BlockKeepsBoth, BlocksAreSound, SoundIsWithin, RoomStays, SettleKeepsWithin, FillKeepsWithin, LiquidationKeepsWithin, OffsetKeepsWithin, OperationKeepsWithin, OperationsKeepWithin, MessageKeepsWithin, VotesKeepWithin, PricesKeepWithin, EndMakesSound};
 
 /// The state before the first block is sound, where the genesis is in its ranges.
 pub fn genesis_is_sound()
@@ -38,9 +39,14 @@ pub fn blocks_are_sound()
     ensures { BlocksAreSound }
 {}
 
-/// A sound state is one in the middle of the next block, before its first operation.
+/// A sound state is one in the middle of the next block, before its first operation, and has room for its votes.
 pub fn sound_is_within()
     ensures { SoundIsWithin }
+{}
+
+/// What changes neither the clock nor votes nor samples leaves the room that there is for these.
+pub fn room_stays()
+    ensures { RoomStays }
 {}
 
 /// Settling an account keeps a state sound in the middle of a block, and its orders fillable.
@@ -77,4 +83,20 @@ pub fn operations_keep_within()
 /// A message does, at no earlier time: less than 2^60 quote quantums more are paid in, or out.
 pub fn message_keeps_within()
     ensures { MessageKeepsWithin }
+{}
+
+/// Votes do, one for a market at most, and leave room.
+pub fn votes_keep_within()
+    ensures { VotesKeepWithin }
+{}
+
+/// Prices do.
+pub fn prices_keep_within()
+    ensures { PricesKeepWithin }
+{}
+
+/// The end of a block makes a state sound again: what ends is dropped, the clock moves, and votes and samples
+/// have room until the next ticks.
+pub fn end_makes_sound()
+    ensures { EndMakesSound }
 {}
