@@ -15,7 +15,7 @@ fn within_million(v: i128) -> i128
     ensures value { result ≡ nearest v (pos 0) million }
     ensures small { unsigned_abs result ≤ 1_000_000 }
 {
-    0i128.max(v.min(1_000_000))
+    v.clamp(0, 1_000_000)
 }
 
 /// What an account lacks of its margin, times the bankruptcy rate.

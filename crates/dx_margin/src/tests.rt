@@ -8,7 +8,7 @@ use crate::{
     Markets, bankrupt_quote, liquidatable, may, price_allowed, quote, risk, settle, value,
 };
 use arrayvec::ArrayVec;
-use dx_types::{Account, List, MarketInfo, MarketParams, Params, Position, Risk};
+use dx_types::{Account, List, MarketInfo, MarketParams, Paid, Params, Position, Risk};
 use std::alloc::Global;
 use std::process::Abort;
 
@@ -116,41 +116,35 @@ fn quotes_round_down(rt: HostRuntime) {
     }
 }
 
+// The market's index, quote, size and index, then the new quote, what is paid and what is left over.
+const SETTLEMENTS: [(i64, i64, i64, i64, i64, i128, i128); 8] = [
+    (3, 9_999_996_998, 1_000, 0, 9_999_996_997, -1, 997_000),
+    (3, 10_000_002_999, -1_000, 0, 10_000_002_999, 0, 3_000),
+    (-3, 9_999_996_998, 1_000, 0, 9_999_996_998, 0, 3_000),
+    (-3, 10_000_002_999, -1_000, 0, 10_000_002_998, -1, 997_000),
+    (3, 7, 1_000, 3, 7, 0, 0),
+    (-3, 0, 1_000_000, 3, 6, 6, 0),
+    (3, 0, 1_000_000, -3, -6, -6, 0),
+    (-3, 0, -1_000_000, 3, -6, -6, 0),
+];
+
 #[test]
 fn settlements_of_both_signs(rt: HostRuntime) {
-    // the market's index, quote, size, index, then the new quote, what is paid and what is left over
-    let rows = [
-        (3, 9_999_996_998, 1_000, 0, 9_999_996_997, -1, 997_000),
-        (3, 10_000_002_999, -1_000, 0, 10_000_002_999, 0, 3_000),
-        (-3, 9_999_996_998, 1_000, 0, 9_999_996_998, 0, 3_000),
-        (-3, 10_000_002_999, -1_000, 0, 10_000_002_998, -1, 997_000),
-        (3, 7, 1_000, 3, 7, 0, 0),
-        (-3, 0, 1_000_000, 3, 6, 6, 0),
-        (3, 0, 1_000_000, -3, -6, -6, 0),
-        (-3, 0, -1_000_000, 3, -6, -6, 0),
-    ];
-    for (now, quote, size, index, want, paid, dust) in rows {
-        let size: i64 = size;
+    for (now, quote, size, index, want, paid, dust) in SETTLEMENTS {
         assert!(rt; size.unsigned_abs() < 1 << 48);
         let markets = OneMarket {
             info: market(5_000_000_000, now, 0),
         };
         let settled = settle(&markets, &account(quote, size, index));
-        let Some(settled) = settled else {
-            assert!(rt; false, "{size} at {index} of {now}");
-            return;
-        };
+        let settled = settled.expect(&rt, "the quote keeps its bound");
         assert_eq!(rt; settled.account.quote, want);
-        assert_eq!(rt;
-            settled.account.positions.as_slice(),
-            [Position {
-                market: 0,
-                size,
-                index: now
-            }]
-            .as_slice()
-        );
-        let paid = dx_types::Paid {
+        let position = Position {
+            market: 0,
+            size,
+            index: now,
+        };
+        assert_eq!(rt; settled.account.positions.as_slice(), [position].as_slice());
+        let paid = Paid {
             market: 0,
             paid,
             dust,
@@ -212,68 +206,69 @@ fn risk_at(rt: &impl Abort, price: u64, quote: i64, size: i64) -> Risk {
     risk(&OneMarket { info }, &account(quote, size, 0))
 }
 
+// Price, quote and size, then net collateral, initial and maintenance margin, and whether it lacks margin.
+const RISKS: [(u64, i64, i64, i128, i128, i128, bool); 8] = [
+    (
+        5_000_000_000,
+        -40_025_000_000,
+        10_000_000_000,
+        9_975_000_000,
+        2_500_000_000,
+        1_500_000_000,
+        false,
+    ),
+    (
+        5_000_000_000,
+        59_990_000_000,
+        -10_000_000_000,
+        9_990_000_000,
+        2_500_000_000,
+        1_500_000_000,
+        false,
+    ),
+    (
+        5_000_000_000,
+        -47_500_000_000,
+        10_000_000_000,
+        2_500_000_000,
+        2_500_000_000,
+        1_500_000_000,
+        false,
+    ),
+    (
+        4_900_000_000,
+        -47_500_000_000,
+        10_000_000_000,
+        1_500_000_000,
+        2_450_000_000,
+        1_470_000_000,
+        false,
+    ),
+    (
+        4_750_000_000,
+        -47_500_000_000,
+        10_000_000_000,
+        0,
+        2_375_000_000,
+        1_425_000_000,
+        true,
+    ),
+    (
+        4_749_999_999,
+        -47_500_000_000,
+        10_000_000_000,
+        -10,
+        2_375_000_000,
+        1_425_000_000,
+        true,
+    ),
+    (4_749_999_999, 0, -1, -5, 1, 1, true),
+    (5_000_000_000, -7, 0, -7, 0, 0, false),
+];
+
 #[test]
 fn risks_of_both_signs(rt: HostRuntime) {
-    // price, quote, size, then net collateral, initial and maintenance margin, and whether it lacks margin
-    let rows = [
-        (
-            5_000_000_000,
-            -40_025_000_000,
-            10_000_000_000,
-            9_975_000_000,
-            2_500_000_000,
-            1_500_000_000,
-            false,
-        ),
-        (
-            5_000_000_000,
-            59_990_000_000,
-            -10_000_000_000,
-            9_990_000_000,
-            2_500_000_000,
-            1_500_000_000,
-            false,
-        ),
-        (
-            5_000_000_000,
-            -47_500_000_000,
-            10_000_000_000,
-            2_500_000_000,
-            2_500_000_000,
-            1_500_000_000,
-            false,
-        ),
-        (
-            4_900_000_000,
-            -47_500_000_000,
-            10_000_000_000,
-            1_500_000_000,
-            2_450_000_000,
-            1_470_000_000,
-            false,
-        ),
-        (
-            4_750_000_000,
-            -47_500_000_000,
-            10_000_000_000,
-            0,
-            2_375_000_000,
-            1_425_000_000,
-            true,
-        ),
-        (
-            4_749_999_999,
-            -47_500_000_000,
-            10_000_000_000,
-            -10,
-            2_375_000_000,
-            1_425_000_000,
-            true,
-        ),
-        (4_749_999_999, 0, -1, -5, 1, 1, true),
-        (5_000_000_000, -7, 0, -7, 0, 0, false),
-    ];
-    for (price, quote, size, tnc, imr, mmr, lacks) in rows {
+    for (price, quote, size, tnc, imr, mmr, lacks) in RISKS {
         let r = risk_at(&rt, price, quote, size);
         assert_eq!(rt; r, Risk { tnc, imr, mmr }, "{quote}, {size} at {price}");
         assert_eq!(rt; liquidatable(&r), lacks, "{quote}, {size} at {price}");
@@ -321,63 +316,63 @@ fn changes_that_are_allowed(rt: HostRuntime) {
     }
 }
 
+// Price, size, amount, net collateral and maintenance margin, then the change of the quote.
+const BANKRUPTCIES: [(u64, i64, u64, i128, i128, i128); 7] = [
+    (
+        4_750_000_000,
+        10_000_000_000,
+        1_000_000_000,
+        0,
+        1_425_000_000,
+        4_750_000_000,
+    ),
+    (
+        4_749_999_999,
+        10_000_000_000,
+        6_000_000_000,
+        -10,
+        1_425_000_000,
+        28_500_000_000,
+    ),
+    (
+        4_749_999_999,
+        4_000_000_000,
+        4_000_000_000,
+        -4,
+        570_000_000,
+        19_000_000_000,
+    ),
+    (
+        4_749_999_999,
+        10_000_000_000,
+        6_000_000_000,
+        -7,
+        1_425_000_000,
+        28_499_999_999,
+    ),
+    (
+        4_749_999_999,
+        10_000_000_000,
+        6_000_000_000,
+        7,
+        1_425_000_000,
+        28_499_999_990,
+    ),
+    (
+        4_750_000_000,
+        -10_000_000_000,
+        1_000_000_000,
+        0,
+        1_425_000_000,
+        -4_750_000_000,
+    ),
+    (4_750_000_000, -10_000_000_000, 0, 99, 1_425_000_000, 0),
+];
+
 #[test]
 fn bankruptcy_quotes_of_both_signs(rt: HostRuntime) {
-    // price, size, amount, net collateral, maintenance margin, then the change of the quote
-    let rows = [
-        (
-            4_750_000_000,
-            10_000_000_000,
-            1_000_000_000,
-            0,
-            1_425_000_000,
-            4_750_000_000,
-        ),
-        (
-            4_749_999_999,
-            10_000_000_000,
-            6_000_000_000,
-            -10,
-            1_425_000_000,
-            28_500_000_000,
-        ),
-        (
-            4_749_999_999,
-            4_000_000_000,
-            4_000_000_000,
-            -4,
-            570_000_000,
-            19_000_000_000,
-        ),
-        (
-            4_749_999_999,
-            10_000_000_000,
-            6_000_000_000,
-            -7,
-            1_425_000_000,
-            28_499_999_999,
-        ),
-        (
-            4_749_999_999,
-            10_000_000_000,
-            6_000_000_000,
-            7,
-            1_425_000_000,
-            28_499_999_990,
-        ),
-        (
-            4_750_000_000,
-            -10_000_000_000,
-            1_000_000_000,
-            0,
-            1_425_000_000,
-            -4_750_000_000,
-        ),
-        (4_750_000_000, -10_000_000_000, 0, 99, 1_425_000_000, 0),
-    ];
-    for (price, size, amount, tnc, mmr, want) in rows {
+    for (price, size, amount, tnc, mmr, want) in BANKRUPTCIES {
         assert!(rt; price < 1 << 48);
-        let size: i64 = size;
         assert!(rt; size.unsigned_abs() < 1 << 48);
         assert!(rt; amount <= size.unsigned_abs());
         let m = market(price, 0, 0);
