@@ -1,0 +1,19 @@
+//! The tests of an order that speak of it alone: what a node asks of an order before it is placed, and
+//! a block before it takes one in.
+//!
+//! It stands on `dx_types` for orders and parameters, and on `dx_spec`, whose `Orders` defines each
+//! test and whose `Refusals` has the numbers. [`check_order`] tests a short-term order and names the
+//! first test that fails by an [`OrderFault`], [`check_stateful`] tests a stateful order, and
+//! [`is_amount`] a size or an amount of a market. Each takes any numbers, wraps nowhere and takes no
+//! memory. Whether an order's account is kept and how much of it is filled the caller says.
+#![tactic(auto)]
+
+mod amounts;
+mod checks;
+mod faults;
+#[cfg(test)]
+mod tests;
+
+pub use amounts::is_amount;
+pub use checks::{check_order, check_stateful};
+pub use faults::OrderFault;

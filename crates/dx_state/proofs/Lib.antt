@@ -1,0 +1,6 @@
+mod Each
+mod Places
+mod Sorting
+mod Starts
+mod Sums
+mod Tested
