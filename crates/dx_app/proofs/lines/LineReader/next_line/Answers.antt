@@ -1,0 +1,30 @@
+use Rattle.std.proofs.Common.{arith}
+use Rattle.dx_app.proofs.Newlines.{cuts_end, cuts_line, cuts_long, cuts_over_long, more_pieces, unbroken_more}
+use Rattle.dx_app.proofs.lines.LineReader.next_line.Goals as goal
+
+pub returns-then-not-branch-clause-cut : goal.returns-then-not-branch-clause-cut
+returns-then-not-branch-clause-cut g c =
+    let none = rw c.if-not-branch.true at c.in_ok-has_more.ensures.more in
+    cuts_end _ _ _ _ _ _ _ _ c.pieces.invariant.taken c.in_ok-has_more.ensures.on c.pieces.invariant.unbroken none.0 none.1 c.ending.ensures
+
+pub returns-then-len-le-LONGEST_LINE-clause-cut : goal.returns-then-len-le-LONGEST_LINE-clause-cut
+returns-then-len-le-LONGEST_LINE-clause-cut g c =
+    let piece = rw c.if-branch.true at c.in_ok-take.ensures in
+    cuts_line _ _ _ _ _ _ _ _ _ c.pieces.invariant.taken c.in_ok-has_more.ensures.on c.pieces.invariant.unbroken piece (omega arith)
+
+pub returns-else-len-le-LONGEST_LINE-clause-cut : goal.returns-else-len-le-LONGEST_LINE-clause-cut
+returns-else-len-le-LONGEST_LINE-clause-cut g c =
+    let piece = rw c.if-branch.true at c.in_ok-take.ensures in
+    cuts_long _ _ _ _ _ _ _ _ _ c.pieces.invariant.taken c.in_ok-has_more.ensures.on c.pieces.invariant.unbroken piece (omega arith)
+
+pub pieces-preserved : goal.pieces-preserved
+pieces-preserved g c =
+    let piece = rw c.if-branch.false at c.in_ok-take.ensures in
+    record {
+      taken = more_pieces _ _ _ _ _ _ _ _ _ c.pieces.invariant.taken c.in_ok-has_more.ensures.on piece;
+      unbroken = unbroken_more _ _ _ _ c.pieces.invariant.unbroken piece;
+      later = omega (arith, c.in_ok-has_more.ensures.later, c.pieces.invariant.later);
+    }
+
+pub returns-clause-cut : goal.returns-clause-cut
+returns-clause-cut g c = cuts_over_long _ _ _ _ _ c.pieces.invariant.taken c.pieces.invariant.unbroken (omega arith)

@@ -1,0 +1,20 @@
+use Rattle.dx_app.proofs.Runs.{run_at_fault, reading_fails, broken_opening, opens, opening_ends}
+use Rattle.dx_app.proofs.program.open.Goals as goal
+
+pub returns-in-Err-clause-ended : goal.returns-in-Err-clause-ended
+returns-in-Err-clause-ended g c = run_at_fault _ _ _ c.end_reading.result (reading_fails c.in-Err.error c.end_reading.result c.end_reading.ensures)
+
+pub returns-in-Broken-clause-ended : goal.returns-in-Broken-clause-ended
+returns-in-Broken-clause-ended g c =
+    let cuts = rw c.in-Broken.is at c.in-Ok.ensures.cut in
+    broken_opening _ _ _ _ _ _ _ c.end_badly.result c.requires cuts c.end_badly.ensures.said
+
+pub returns-in-Ok-read_genesis-clause-opened : goal.returns-in-Ok-read_genesis-clause-opened
+returns-in-Ok-read_genesis-clause-opened g c =
+    let cuts = rw (c.in-Line.is, ← c.as_slice.ensures.value) at c.in-Ok.ensures.cut in
+    opens _ _ _ _ _ c.in-Ok-read_genesis.first c.requires cuts c.in-Ok-read_genesis.ensures.read
+
+pub returns-clause-ended : goal.returns-clause-ended
+returns-clause-ended g c =
+    let cuts = rw (c.in-Line.is, ← c.as_slice.ensures.value) at c.in-Ok.ensures.cut in
+    opening_ends _ _ _ _ _ _ _ c.in-Err-read_genesis.fault c.end_at_line.result c.requires cuts c.in-Err-read_genesis.ensures.read c.end_at_line.ensures.said

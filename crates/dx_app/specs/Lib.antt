@@ -1,0 +1,11 @@
+pub mod Lines
+pub mod Output
+pub mod Plain
+pub mod Ends
+pub mod Deposits
+pub mod Blocks
+pub mod Nodes
+pub mod Held
+pub mod World
+pub mod Transcript
+pub mod Runs

@@ -1,0 +1,151 @@
+ghost use Rattle.std.specs.Prelude.{◌≡◌, ◌≤◌, ◌⊎◌, [], ◌++◌, MatchResult, IfOk, IfErr, length};
+ghost use Rattle.std.specs.Io.KnownBytes.{Appends, IsAtEnd};
+ghost use Rattle.dx_io.specs.Causes.{Rose};
+ghost use Rattle.dx_types.specs.declared.status.Status.TheVariants as ends;
+ghost use Rattle.dx_spec.specs.Genesis.{IsNatFrom, IsGenesis};
+ghost use Rattle.dx_print.specs.Replies.{reply_line};
+ghost use Rattle.dx_app.specs.Output.{AppendsFront};
+ghost use Rattle.dx_app.specs.World.{World, Stands};
+ghost use Rattle.dx_app.specs.Transcript.{ended, genesis_reply, scenario, transcript};
+ghost use Rattle.dx_app.specs.Runs.{Says, IsRunOf, GoesOn, OpensTo};
+
+use crate::cluster::Cluster;
+use crate::lines::{Cut, LineReader};
+use crate::output::write_text;
+use crate::replay::{end_at_line, end_badly, end_reading, replay_lines, write_last};
+use dx_io::{Keeper, Sink, Source};
+use dx_print::{Reply, Word, reply};
+use dx_scenario::read_genesis;
+use dx_types::{Genesis, Status};
+use std::alloc::Global;
+
+/// Reads the first line, or says how the run ends.
+fn open<S: Source, W: Sink>(
+    alloc: Global,
+    reader: &mut LineReader,
+    source: &mut S,
+    sink: &mut W,
+) -> Result<(u32, Genesis), Status>
+    requires { reader.old ≡ [] }
+    ensures opened { IfOk result (λ first. OpensTo first reader.new (S.left source.old) (S.left source.new)) }
+    ensures silent { IfOk result (λ _. W.written sink.new ≡ W.written sink.old) }
+    ensures nodes { IfOk result (λ first. IsNatFrom 1 16 first.0) }
+    ensures good { IfOk result (λ first. IsGenesis first.1) }
+    ensures ended { IfErr result (λ s. IsRunOf scenario (S.left source.old) (W.written sink.old) (W.written sink.new) s) }
+    ensures read_later { S.faults source.old ≤ S.faults source.new }
+    ensures write_later { W.faults sink.old ≤ W.faults sink.new }
+    ensures read_failed { IfErr result (λ s. s ≡ ends.ReadFault → Rose (S.faults source.old) (S.faults source.new)) }
+    ensures write_failed { IfErr result (λ s. s ≡ ends.WriteFault → Rose (W.faults sink.old) (W.faults sink.new)) }
+    ensures others { IfErr result (λ s. (s ≡ ends.Done → ⊥) × (s ≡ ends.KeepFault → ⊥)) }
+{
+    let mut line = Vec::new(alloc);
+    let cut = match reader.next_line(source, &mut line) {
+        Ok(cut) => cut,
+        Err(error) => return Err(end_reading(error)),
+    };
+    match cut {
+        Cut::Line => {}
+        Cut::Broken => return Err(end_badly(alloc, sink, 1, 0)),
+        Cut::End => return Err(end_badly(alloc, sink, 1, 0)),
+    }
+    match read_genesis(alloc, line.as_slice()) {
+        Ok(first) => Ok(first),
+        Err(fault) => Err(end_at_line(alloc, sink, 1, fault)),
+    }
+}
+
+/// Writes the reply to the first line, or says how the run ends.
+fn greet<W: Sink>(alloc: Global, sink: &mut W, cluster: &Cluster) -> Result<(), Status>
+    ensures written { (w : World) → Stands cluster.now w
+        → MatchResult result (λ _. Appends (W.written sink.old) (W.written sink.new) (reply_line 1 (genesis_reply w)))
+        (λ s. AppendsFront (W.written sink.old) (W.written sink.new) (reply_line 1 (genesis_reply w)) × ((s ≡ ends.WriteFault) ⊎ (s ≡ ends.NoMemory))) }
+    ensures later { W.faults sink.old ≤ W.faults sink.new }
+    ensures failed { IfErr result (λ s. s ≡ ends.WriteFault → Rose (W.faults sink.old) (W.faults sink.new)) }
+    ensures others { IfErr result (λ s. (s ≡ ends.Done → ⊥) × (s ≡ ends.ReadFault → ⊥) × (s ≡ ends.KeepFault → ⊥)) }
+{
+    let Ok(answer) = cluster.heights() else {
+        return Err(Status::NoMemory);
+    };
+    let answered = Reply {
+        word: Word::Genesis,
+        answer,
+    };
+    let Ok(text) = reply(alloc, 1, &answered) else {
+        return Err(Status::NoMemory);
+    };
+    write_text(sink, text.as_slice())
+}
+
+/// Answers all lines of a source, as the scenario that they are.
+///
+/// The keeper is not called yet.
+pub fn replay_all<S: Source, W: Sink, K: Keeper>(
+    alloc: Global,
+    source: &mut S,
+    sink: &mut W,
+    keeper: &mut K,
+) -> Status
+    // What is written and the status are those of the scenario that the source had left; at a fault of
+    // the outside or for want of memory, a front of it is written.
+    ensures said { IsRunOf scenario (S.left source.old) (W.written sink.old) (W.written sink.new) result }
+    ensures done { result ≡ ends.Done → IsAtEnd (S.left source.new) }
+
+    // A fault of the outside is an answer only where the count of that object's faults rose.
+    ensures read_fault { result ≡ ends.ReadFault → Rose (S.faults source.old) (S.faults source.new) }
+    ensures write_fault { result ≡ ends.WriteFault → Rose (W.faults sink.old) (W.faults sink.new) }
+    ensures keep_fault { result ≡ ends.KeepFault → ⊥ }
+    ensures keeper { keeper.new ≡ keeper.old }
+{
+    let mut reader = LineReader::new();
+    let (count, genesis) = match open(alloc, &mut reader, source, sink) {
+        Ok(first) => first,
+        Err(status) => return status,
+    };
+    let Ok(mut cluster) = Cluster::new(alloc, count, &genesis) else {
+        return Status::NoMemory;
+    };
+    match greet(alloc, sink, &cluster) {
+        Ok(()) => {}
+        Err(status) => return status,
+    }
+    replay_lines(alloc, &mut cluster, &mut reader, source, sink)
+}
+
+/// Refuses the words, and ends the run.
+fn refuse_words<W: Sink>(alloc: Global, sink: &mut W) -> Status
+    ensures said { Says (W.written sink.old) (W.written sink.new) (ended ends.Usage) result }
+    ensures failed { result ≡ ends.WriteFault → Rose (W.faults sink.old) (W.faults sink.new) }
+    ensures others { (result ≡ ends.Done → ⊥) × (result ≡ ends.ReadFault → ⊥) × (result ≡ ends.KeepFault → ⊥) }
+{
+    let status = Status::Usage;
+    match write_last(alloc, sink, &status) {
+        Ok(()) => status,
+        Err(status) => status,
+    }
+}
+
+/// Does all that the program does: `words` are the program's words without its name. Any word is
+/// refused yet, and the keeper is not called yet.
+pub fn run<S: Source, W: Sink, K: Keeper>(
+    alloc: Global,
+    words: &[String],
+    source: &mut S,
+    sink: &mut W,
+    keeper: &mut K,
+) -> Status
+    // What is written and the status are those of the words and of what the source had left; at a fault
+    // of the outside or for want of memory, a front of it is written.
+    ensures said { IsRunOf (transcript words.now) (S.left source.old) (W.written sink.old) (W.written sink.new) result }
+    ensures done { result ≡ ends.Done → IsAtEnd (S.left source.new) }
+
+    // A fault of the outside is an answer only where the count of that object's faults rose.
+    ensures read_fault { result ≡ ends.ReadFault → Rose (S.faults source.old) (S.faults source.new) }
+    ensures write_fault { result ≡ ends.WriteFault → Rose (W.faults sink.old) (W.faults sink.new) }
+    ensures keep_fault { result ≡ ends.KeepFault → ⊥ }
+    ensures keeper { keeper.new ≡ keeper.old }
+{
+    if !words.is_empty() {
+        return refuse_words(alloc, sink);
+    }
+    replay_all(alloc, source, sink, keeper)
+}

@@ -1,0 +1,199 @@
+ghost use Rattle.std.specs.Prelude.{◌≡◌, ◌<◌, ◌≤◌, ◌+◌, ◌++◌, ◌⊎◌, MatchResult, OnOk, IfOk, IfErr, length};
+ghost use Rattle.std.specs.Io.KnownBytes.{Appends, IsAtEnd};
+ghost use Rattle.dx_io.specs.Causes.{Rose};
+ghost use Rattle.dx_types.specs.declared.status.Status.TheVariants as ends;
+ghost use Rattle.dx_print.specs.Statuses.{last_line};
+ghost use Rattle.dx_app.specs.Output.{AppendsFront};
+ghost use Rattle.dx_app.specs.World.{World, Stands};
+ghost use Rattle.dx_app.specs.Transcript.{Told, line_limit, ended, bad_line, line_told, rest_told};
+ghost use Rattle.dx_app.specs.Runs.{Says, IsRunOf, GoesOn, IsAnswered, EndsAtLine, EndsReading};
+
+use crate::cluster::Cluster;
+use crate::lines::{Cut, LineReader, ReadError};
+use crate::output::write_text;
+use dx_io::{Sink, Source};
+use dx_print::{last_line, reply};
+use dx_scenario::{LineFault, read_event};
+use dx_types::Status;
+use std::alloc::Global;
+
+/// One more than the most lines that are read.
+const LINES_END: u64 = 1_000_001;
+
+/// Writes the last line of a run that ends with this status, or says how it ends in its place.
+pub fn write_last<W: Sink>(alloc: Global, sink: &mut W, status: &Status) -> Result<(), Status>
+    ensures written { MatchResult result (λ _. Appends (W.written sink.old) (W.written sink.new) (last_line status.now))
+        (λ s. AppendsFront (W.written sink.old) (W.written sink.new) (last_line status.now) × ((s ≡ ends.WriteFault) ⊎ (s ≡ ends.NoMemory))) }
+    ensures later { W.faults sink.old ≤ W.faults sink.new }
+    ensures failed { IfErr result (λ s. s ≡ ends.WriteFault → Rose (W.faults sink.old) (W.faults sink.new)) }
+{
+    let Ok(text) = last_line(alloc, status) else {
+        return Err(Status::NoMemory);
+    };
+    write_text(sink, text.as_slice())
+}
+
+/// Writes that a line is bad, and ends the run.
+pub fn end_badly<W: Sink>(alloc: Global, sink: &mut W, line: u64, field: u32) -> Status
+    ensures said { Says (W.written sink.old) (W.written sink.new) (bad_line line field) result }
+    ensures later { W.faults sink.old ≤ W.faults sink.new }
+    ensures failed { result ≡ ends.WriteFault → Rose (W.faults sink.old) (W.faults sink.new) }
+    ensures others { (result ≡ ends.Done → ⊥) × (result ≡ ends.ReadFault → ⊥) × (result ≡ ends.KeepFault → ⊥) }
+{
+    let status = Status::BadLine { line, field };
+    match write_last(alloc, sink, &status) {
+        Ok(()) => status,
+        Err(status) => status,
+    }
+}
+
+/// Ends the run at a line that is not read.
+pub fn end_at_line<W: Sink>(alloc: Global, sink: &mut W, line: u64, fault: LineFault) -> Status
+    ensures said { EndsAtLine (W.written sink.old) (W.written sink.new) line fault result }
+    ensures later { W.faults sink.old ≤ W.faults sink.new }
+    ensures failed { result ≡ ends.WriteFault → Rose (W.faults sink.old) (W.faults sink.new) }
+    ensures others { (result ≡ ends.Done → ⊥) × (result ≡ ends.ReadFault → ⊥) × (result ≡ ends.KeepFault → ⊥) }
+{
+    match fault {
+        LineFault::Bad { field } => end_badly(alloc, sink, line, field),
+        LineFault::NoMemory => Status::NoMemory,
+    }
+}
+
+/// How a run ends whose source failed, or that had no memory for a line.
+pub fn end_reading(error: ReadError) -> Status
+    ensures { EndsReading error result }
+{
+    match error {
+        ReadError::Failed => Status::ReadFault,
+        ReadError::NoMemory => Status::NoMemory,
+    }
+}
+
+/// Executes a line and writes the reply, or says how the run ends.
+fn answer_line<W: Sink>(
+    alloc: Global,
+    cluster: &mut Cluster,
+    number: u64,
+    line: &[u8],
+    sink: &mut W,
+) -> Result<(), Status>
+    ensures answered { OnOk result ((w : World) → Stands cluster.old w
+        → IsAnswered w number line.now cluster.new (W.written sink.old) (W.written sink.new)) }
+    ensures ended { IfErr result (λ s. (w : World) → Stands cluster.old w
+        → (next : World → Told) → Says (W.written sink.old) (W.written sink.new) (line_told w number line.now next) s) }
+    ensures later { W.faults sink.old ≤ W.faults sink.new }
+    ensures failed { IfErr result (λ s. s ≡ ends.WriteFault → Rose (W.faults sink.old) (W.faults sink.new)) }
+    ensures others { IfErr result (λ s. (s ≡ ends.Done → ⊥) × (s ≡ ends.ReadFault → ⊥) × (s ≡ ends.KeepFault → ⊥)) }
+{
+    let event = match read_event(alloc, line, cluster.count()) {
+        Ok(event) => event,
+        Err(fault) => return Err(end_at_line(alloc, sink, number, fault)),
+    };
+    let Ok(answer) = cluster.serve(event) else {
+        return Err(Status::NoMemory);
+    };
+    let Ok(text) = reply(alloc, number, &answer) else {
+        return Err(Status::NoMemory);
+    };
+    write_text(sink, text.as_slice())
+}
+
+/// Reads the next line, executes it and writes the reply, or says how the run ends.
+fn next_reply<S: Source, W: Sink>(
+    alloc: Global,
+    cluster: &mut Cluster,
+    number: u64,
+    reader: &mut LineReader,
+    source: &mut S,
+    line: &mut Vec<u8>,
+    sink: &mut W,
+) -> Result<(), Status>
+    requires { number ≤ line_limit }
+    ensures goes_on { OnOk result ((w : World) → Stands cluster.old w
+        → GoesOn (λ rest. rest_told w number (reader.old ++ rest)) reader.new (S.left source.old) (S.left source.new)
+        (W.written sink.old) (W.written sink.new) cluster.new (number + 1)) }
+    ensures ended { IfErr result (λ s. (w : World) → Stands cluster.old w
+        → IsRunOf (λ rest. rest_told w number (reader.old ++ rest)) (S.left source.old) (W.written sink.old) (W.written sink.new) s) }
+    ensures done { IfErr result (λ s. s ≡ ends.Done → IsAtEnd (S.left source.new)) }
+    ensures read_later { S.faults source.old ≤ S.faults source.new }
+    ensures write_later { W.faults sink.old ≤ W.faults sink.new }
+    ensures read_failed { IfErr result (λ s. s ≡ ends.ReadFault → Rose (S.faults source.old) (S.faults source.new)) }
+    ensures write_failed { IfErr result (λ s. s ≡ ends.WriteFault → Rose (W.faults sink.old) (W.faults sink.new)) }
+    ensures no_keeper { IfErr result (λ s. s ≡ ends.KeepFault → ⊥) }
+{
+    let cut = match reader.next_line(source, line) {
+        Ok(cut) => cut,
+        Err(error) => return Err(end_reading(error)),
+    };
+    match cut {
+        Cut::Line => answer_line(alloc, cluster, number, line.as_slice(), sink),
+        Cut::Broken => Err(end_badly(alloc, sink, number, 0)),
+        Cut::End => Err(Status::Done),
+    }
+}
+
+/// Writes that the input has too many lines, and ends the run.
+fn end_long<W: Sink>(alloc: Global, sink: &mut W) -> Status
+    ensures said { Says (W.written sink.old) (W.written sink.new) (ended ends.Long) result }
+    ensures later { W.faults sink.old ≤ W.faults sink.new }
+    ensures failed { result ≡ ends.WriteFault → Rose (W.faults sink.old) (W.faults sink.new) }
+    ensures others { (result ≡ ends.Done → ⊥) × (result ≡ ends.ReadFault → ⊥) × (result ≡ ends.KeepFault → ⊥) }
+{
+    let status = Status::Long;
+    match write_last(alloc, sink, &status) {
+        Ok(()) => status,
+        Err(status) => status,
+    }
+}
+
+/// Ends the run behind the last line that may be read.
+fn end_of_lines<S: Source, W: Sink>(
+    alloc: Global,
+    reader: &mut LineReader,
+    source: &mut S,
+    sink: &mut W,
+) -> Status
+    ensures said { (w : World) → IsRunOf (λ rest. rest_told w 1000001 (reader.old ++ rest)) (S.left source.old) (W.written sink.old) (W.written sink.new) result }
+    ensures done { result ≡ ends.Done → IsAtEnd (S.left source.new) }
+    ensures read_later { S.faults source.old ≤ S.faults source.new }
+    ensures write_later { W.faults sink.old ≤ W.faults sink.new }
+    ensures read_failed { result ≡ ends.ReadFault → Rose (S.faults source.old) (S.faults source.new) }
+    ensures write_failed { result ≡ ends.WriteFault → Rose (W.faults sink.old) (W.faults sink.new) }
+    ensures no_keeper { result ≡ ends.KeepFault → ⊥ }
+{
+    let Ok(more) = reader.has_more(source) else {
+        return Status::ReadFault;
+    };
+    if more {
+        return end_long(alloc, sink);
+    }
+    Status::Done
+}
+
+/// Answers the lines from the second on.
+pub fn replay_lines<S: Source, W: Sink>(
+    alloc: Global,
+    cluster: &mut Cluster,
+    reader: &mut LineReader,
+    source: &mut S,
+    sink: &mut W,
+) -> Status
+    ensures said { (w : World) → Stands cluster.old w
+        → IsRunOf (λ rest. rest_told w 2 (reader.old ++ rest)) (S.left source.old) (W.written sink.old) (W.written sink.new) result }
+    ensures done { result ≡ ends.Done → IsAtEnd (S.left source.new) }
+    ensures read_later { S.faults source.old ≤ S.faults source.new }
+    ensures write_later { W.faults sink.old ≤ W.faults sink.new }
+    ensures read_failed { result ≡ ends.ReadFault → Rose (S.faults source.old) (S.faults source.new) }
+    ensures write_failed { result ≡ ends.WriteFault → Rose (W.faults sink.old) (W.faults sink.new) }
+    ensures no_keeper { result ≡ ends.KeepFault → ⊥ }
+{
+    let mut line = Vec::new(alloc);
+    'lines: for number in 2..LINES_END {
+        match next_reply(alloc, cluster, number, reader, source, &mut line, sink) {
+            Ok(()) => {}
+            Err(status) => return status,
+        }
+    }
+    end_of_lines(alloc, reader, source, sink)
+}

@@ -1,0 +1,5 @@
+pub mod Parts
+pub mod Genesis
+pub mod Built
+pub mod Blocks
+pub mod Events
