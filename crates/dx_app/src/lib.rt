@@ -28,3 +28,6 @@ mod replay;
 mod slots;
 
 pub use program::{replay_all, run};
+
+#[cfg(test)]
+mod tests;

@@ -36,8 +36,8 @@ fn dust_of(fee: i128, charged: i128) -> i128
     difference(product(1_000_000, fee), charged)
 }
 
-/// The fee on a fill's quote, which is in quote quantums: `ppm` parts per million of it, rounded up,
-/// with the exact fee and what the rounding adds.
+/// The fee on a fill's quote, which is from 0 to 2^56 − 1 quote quantums: `ppm` parts per million of
+/// it, at most 100,000, rounded up; with the exact fee and what the rounding adds.
 #[tactic(auto, unfolding(dx_num::specs::Rounding::ppm_up, dx_spec::specs::Fees::charge))]
 pub fn charge(quote: i64, ppm: u32) -> Charge
     requires not_negative { pos 0 ≤ℤ quote }
@@ -100,7 +100,8 @@ fn received(f: &Funds, c: &Charge, fees: i64) -> Funds
 }
 
 /// The funds with a charge received. `Bound` exactly where the fee fund would leave its bound, 0 to
-/// 2^60 − 1 quote quantums; there is no other fault.
+/// 2^60 − 1 quote quantums; there is no other fault. Where a million times the fee fund was all that
+/// was charged and all dust, it is so afterwards.
 #[tactic(auto, using(crate::proofs::Dust::stays_exact), unfolding(dx_spec::specs::Fees::with_charge))]
 pub fn pay(f: &Funds, c: &Charge) -> Result<Funds, FundFault>
     requires charged { unsigned_abs f.now.charged ≤ 2 ^ 101 }

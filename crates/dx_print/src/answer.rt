@@ -7,7 +7,7 @@ use crate::numbers::{push_int, push_number, push_numbers, push_text};
 use dx_types::{Account, Bad, List, NoMemory, Position};
 
 /// What is replied to an event, without the event's word.
-#[derive(Debug, Drop)]
+#[derive(Debug, PartialEq, Eq, Drop)]
 pub enum Answer {
     /// The heights of all nodes.
     Heights(List<u32>),

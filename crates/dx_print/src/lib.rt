@@ -17,3 +17,6 @@ pub use answer::Answer;
 pub use lines::reply;
 pub use replies::{Reply, Word};
 pub use status::last_line;
+
+#[cfg(test)]
+mod tests;

@@ -14,7 +14,7 @@ pub enum Word {
 }
 
 /// The reply to a line.
-#[derive(Debug, Drop)]
+#[derive(Debug, PartialEq, Eq, Drop)]
 pub struct Reply {
     /// The event's word.
     pub word: Word,

@@ -14,7 +14,7 @@ use std::alloc::Global;
 const LAST_SLOT: u32 = 255;
 
 /// What a line asks for, from the second line on.
-#[derive(Debug, Drop)]
+#[derive(Debug, PartialEq, Eq, Drop)]
 pub enum Event {
     /// A block is put into a slot.
     Handed {

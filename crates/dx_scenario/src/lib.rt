@@ -21,3 +21,6 @@ mod value;
 pub use event::{Event, read_event};
 pub use fault::LineFault;
 pub use genesis::read_genesis;
+
+#[cfg(test)]
+mod tests;
