@@ -1,0 +1,5 @@
+pub mod Funds
+pub mod Shifts
+pub mod Dusts
+pub mod Coverage
+pub mod Settled

@@ -1,0 +1,4 @@
+pub mod Faults
+pub mod Payable
+pub mod Steady
+pub mod Places

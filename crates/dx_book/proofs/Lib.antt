@@ -1,0 +1,6 @@
+mod Each
+mod Sorting
+mod Sides
+mod Ids
+mod Places
+mod Keys

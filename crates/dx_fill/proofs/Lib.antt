@@ -1,0 +1,4 @@
+pub mod Names
+pub mod Before
+pub mod Halves
+pub mod Ends
