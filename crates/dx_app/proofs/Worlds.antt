@@ -1,11 +1,13 @@
 -- What the program holds, and the nodes and slots that it stands for.
 use Rattle.std.proofs.Common.{◌≡◌, ◌<◌, ◌≤◌, ℕ, zero, suc, List, [], ◌∷◌, ◌++◌, map, length, take, replicate, refl, sym, ap, subst, ◌∙◌, arith, get_or, Option, Some, None, Result, Ok, Err}
-use Rattle.std.specs.Prelude.{slice_get, slice_set, IfOk}
+use Rattle.std.specs.Prelude.{slice_get, slice_set, IfOk, IsOk, All}
 use Rattle.std.specs.List.{AllZip}
 use Rattle.std.specs.FinMap.{get}
 use Rattle.std.proofs.lemmas.Result.{IfOk-from_err}
 use Rattle.std.proofs.lemmas.Slice.Zip.{AllZip-long}
 use Rattle.std.proofs.lemmas.List.{set-get_or, take_all}
+use Rattle.std.proofs.lemmas.List.Elements.{All-head, All-tail, All-cons, All-replicate}
+use Rattle.std.proofs.lemmas.Option.{slice_get_within, get_or_from_slice_get}
 use Rattle.dx_types.specs.declared.SubaccountId.{SubaccountId}
 use Rattle.dx_types.specs.declared.Block.{Block}
 use Rattle.dx_types.specs.declared.Bad.{Bad}
@@ -13,8 +15,9 @@ use Rattle.dx_types.specs.declared.Genesis.{Genesis}
 use Rattle.dx_types.specs.declared.no_memory.NoMemory.{NoMemory}
 use Rattle.dx_spec.specs.Step.{◌>>=◌}
 use Rattle.dx_spec.specs.State.{State, genesis_state}
-use Rattle.dx_spec.specs.Blocks.{block_step, fold_from}
+use Rattle.dx_spec.specs.Blocks.{block_step, fold_from, fold_blocks}
 use Rattle.dx_spec.proofs.Steps.{ok_same}
+use Rattle.dx_scenario.specs.declared.event.Event.{Event}
 use Rattle.dx_scenario.specs.declared.event.Event.TheVariants as events
 use Rattle.dx_print.specs.declared.replies.Word.TheVariants as words
 use Rattle.dx_print.specs.declared.answer.Answer.{Answer}
@@ -25,7 +28,7 @@ use Rattle.dx_app.specs.declared.cluster.Cluster.{Cluster}
 use Rattle.dx_app.specs.Held.{Held}
 use Rattle.dx_app.specs.Blocks.{Refuses, AnswersRefusal}
 use Rattle.dx_app.specs.Nodes.{PlainNode, new_node, committed, height_of, commit, with_block, StandsFor}
-use Rattle.dx_app.specs.World.{World, node_acts, act_at, commit_answer, commit_slot, balance_answer, tell_balance, step, Stands, Acts, HasActed, IsDone}
+use Rattle.dx_app.specs.World.{World, node_acts, act_at, commit_answer, commit_slot, balance_answer, tell_balance, step, Stands, Acts, HasActed, IsDone, FoldsStayGood}
 
 -- where the first of some blocks leads, the rest leads with one more block behind it
 one_behind : (r : Result (State × List ℕ) Bad) (bs : List Block) (b : Block) (t : State) → ((u : State) → fold_from u bs ≡ Ok t → fold_from u (bs ++ b ∷ []) ≡ (block_step t b >>= λ x. Ok x.0))
@@ -172,3 +175,51 @@ heights_are (s ∷ ss) (p ∷ ps) z = ap (λ (n : ℕ). n ∷ map (λ s. s.clock
 pub heights_told : (c : Cluster) (w : World) (numbers : List ℕ) (items : List State) (i : ℕ) → Stands c w → items ≡ c.nodes.items → length items ≤ i → numbers ≡ map (λ s. s.clock.height) (take i items) → numbers ≡ map height_of w.nodes
 heights_told c w numbers items i st e h n =
     n ∙ ap (λ (xs : List State). map {B = ℕ} (λ s. s.clock.height) xs) (take_all i items h ∙ e) ∙ heights_are c.nodes.items w.nodes st.nodes
+
+-- the blocks of a node lead to a state
+IsGood : PlainNode → Type 0
+IsGood p = IsOk (fold_blocks p.genesis p.blocks)
+
+state_of : (r : Result State Bad) → IsOk r → (s : State) × (r ≡ Ok s)
+state_of (Ok s) h = (s, refl)
+state_of (Err bad) h = absurd (cc)
+
+committed_good : (s : State) (p : PlainNode) (b : Block) (r : Result (State × List ℕ) Bad) → StandsFor s p → block_step s b ≡ r → IsGood p → IsGood (commit_slot (Some b) p).0
+unfolding IsGood
+committed_good s p b (Ok x) st e h =
+    let acted = acts_good s x.0 b x.1 (b.height ∷ x.1) e refl p st in
+    rw acted.0 refl
+committed_good s p b (Err bad) st e h = rw (acts_bad s b bad e p st).0 refl
+
+slot_good : (o : Option Block) (p : PlainNode) → IsGood p → IsGood (commit_slot o p).0
+unfolding IsGood
+slot_good None p h = h
+slot_good (Some b) p h =
+    let state = state_of (fold_blocks p.genesis p.blocks) h in
+    committed_good state.0 p b (block_step state.0 b) state.1 refl h
+
+all_set : (ps : List PlainNode) (n : ℕ) (p : PlainNode) → All IsGood ps → IsGood p → All IsGood (slice_set ps n p)
+all_set [] n p h g = h
+all_set (q ∷ ps) zero p h g = All-cons IsGood p ps g (All-tail IsGood q ps h)
+all_set (q ∷ ps) (suc n) p h g = All-cons IsGood q (slice_set ps n p) (All-head IsGood q ps h) (all_set ps n p (All-tail IsGood q ps h) g)
+
+all_at : (ps : List PlainNode) (n : ℕ) (p : PlainNode) → slice_get ps n ≡ Some p → All IsGood ps → IsGood p
+all_at ps n p e h = subst IsGood (get_or_from_slice_get ps n p p e) (h n p (slice_get_within ps n p e))
+
+acted_good : (w : World) (node : ℕ) (act : PlainNode → PlainNode × Answer) (o : Option PlainNode) → slice_get w.nodes node ≡ o → All IsGood w.nodes → ((p : PlainNode) → IsGood p → IsGood (act p).0) → All IsGood (node_acts w o node act).0.nodes
+acted_good w node act None e h a = h
+acted_good w node act (Some p) e h a = all_set w.nodes node (act p).0 h (a p (all_at w.nodes node p e h))
+
+step_good : (w : World) (event : Event) → All IsGood w.nodes → All IsGood (step w event).0.nodes
+step_good w (events.Handed slot b) h = h
+step_good w (events.Commit node slot) h = acted_good w node (commit_slot (get w.slots slot)) (slice_get w.nodes node) refl h (slot_good (get w.slots slot))
+step_good w (events.Balance node who) h = acted_good w node (tell_balance who) (slice_get w.nodes node) refl h (λ p g. g)
+
+first_good : (nodes : ℕ) (g : Genesis) → All IsGood (replicate nodes (new_node g))
+unfolding IsGood
+first_good nodes g = All-replicate IsGood nodes (new_node g) (rw (stands_new g) refl)
+
+-- the blocks of each node are good in every world
+pub folds_stay_good : FoldsStayGood
+unfolding IsGood
+folds_stay_good = (first_good, step_good)

@@ -1,5 +1,5 @@
 -- All nodes and slots, and what an event does.
-use Rattle.std.specs.Prelude.{◌≡◌, ℕ, List, ◌∷◌, map, replicate, Option, Some, None, Result, Ok, Err, slice_get, slice_set}
+use Rattle.std.specs.Prelude.{◌≡◌, ℕ, List, ◌∷◌, map, replicate, Option, Some, None, Result, Ok, Err, slice_get, slice_set, All, IsOk}
 use Rattle.std.specs.List.{AllZip}
 use Rattle.std.specs.FinMap.{get, insert, empty}
 use Rattle.dx_types.specs.declared.SubaccountId.{SubaccountId}
@@ -8,6 +8,7 @@ use Rattle.dx_types.specs.declared.Block.{Block}
 use Rattle.dx_types.specs.declared.Bad.{Bad}
 use Rattle.dx_types.specs.declared.Genesis.{Genesis}
 use Rattle.dx_spec.specs.State.{State}
+use Rattle.dx_spec.specs.Blocks.{fold_blocks}
 use Rattle.dx_scenario.specs.declared.event.Event.{Event}
 use Rattle.dx_scenario.specs.declared.event.Event.TheVariants.{Handed, Commit, Balance}
 use Rattle.dx_print.specs.declared.replies.Word.{Word}
@@ -88,3 +89,11 @@ pub record HasActed (r : World × Answer) (after : Cluster) (answer : Answer) : 
 pub record IsDone (r : World × Reply) (after : Cluster) (reply : Reply) : Type 0 where
   pub replied : reply ≡ r.1
   pub stands : Stands after r.0
+
+-- the blocks of each node are good, so that its state is the plain fold of them
+abbrev pub AllFold : World → Type 0
+AllFold w = All (λ p. IsOk (fold_blocks p.genesis p.blocks)) w.nodes
+
+-- they are so at first, and whatever happens
+abbrev pub FoldsStayGood : Type 0
+FoldsStayGood = ((nodes : ℕ) (g : Genesis) → AllFold (world_of nodes g)) × ((w : World) (event : Event) → AllFold w → AllFold (step w event).0)

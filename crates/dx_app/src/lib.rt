@@ -20,6 +20,7 @@ mod blocks;
 mod cluster;
 mod deposits;
 mod ends;
+mod laws;
 mod lines;
 mod node;
 mod output;
@@ -27,6 +28,7 @@ mod program;
 mod replay;
 mod slots;
 
+pub use laws::folds_stay_good;
 pub use program::{replay_all, run};
 
 #[cfg(test)]
