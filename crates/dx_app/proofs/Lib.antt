@@ -1,7 +1,6 @@
 pub mod Outputs
 pub mod Newlines
-pub mod Worlds
 pub mod Runs
-pub mod Depositing
-pub mod Ending
-pub mod Blocking
+pub mod Endings
+pub mod Limits
+pub mod Caused

@@ -10,17 +10,16 @@ use Rattle.dx_scenario.specs.declared.fault.LineFault.{LineFault}
 use Rattle.dx_scenario.specs.declared.fault.LineFault.TheVariants as faults
 use Rattle.dx_scenario.specs.Parts.{Fails}
 use Rattle.dx_scenario.specs.Genesis.{genesis_of}
-use Rattle.dx_scenario.specs.Events.{event_of}
 use Rattle.dx_print.specs.declared.replies.Reply.{Reply}
 use Rattle.dx_print.specs.Replies.{reply_line}
-use Rattle.dx_app.specs.declared.cluster.Cluster.{Cluster}
+use Rattle.dx_cluster.specs.declared.cluster.Cluster.{Cluster}
 use Rattle.dx_app.specs.declared.lines.Cut.TheVariants.{Line, Broken, End}
 use Rattle.dx_app.specs.declared.lines.ReadError.{ReadError}
 use Rattle.dx_app.specs.declared.lines.ReadError.TheVariants as errors
 use Rattle.dx_app.specs.Lines.{newline, longest_line, has_newline, cut, with_byte, AreBroken, rest_of, CutsLine, ReadsOn}
 use Rattle.dx_app.specs.Output.{AppendsFront}
-use Rattle.dx_app.specs.World.{World, world_of, step, Stands, IsDone}
-use Rattle.dx_app.specs.Transcript.{transcript, Told, line_limit, told_after, ended, bad_line, or_bad, event_told, line_told, lines_told, rest_told, genesis_reply, genesis_told, scenario_told, scenario}
+use Rattle.dx_cluster.specs.World.{World, world_of, step, Stands, IsDone}
+use Rattle.dx_app.specs.Transcript.{transcript, Told, line_limit, told_after, ended, bad_line, or_bad, event_told, line_told, lines_told, rest_told, genesis_reply, genesis_told, scenario_told, scenario, built_event_of}
 use Rattle.dx_app.specs.Runs.{is_fault, Says, IsRunOf, GoesOn, IsAnswered, EndsAtLine, EndsReading, OpensTo}
 use Rattle.dx_app.proofs.Newlines.{cut_line, rest_at_end}
 use Rattle.dx_app.proofs.Outputs.{appends_nothing, appends_then, keeps_front, nothing_front, front_more, consumes_then, rest_is_input, read_is_input}
@@ -193,28 +192,28 @@ none_over h0 h1 l0 l1 written w r none at_end =
       said = subst (λ t. Says written written t ends.Done) (sym nothing) (appends_nothing written, refl);
     }
 
-line_is : (w : World) (nodes n : ℕ) (line : List ℕ) (r : Result Event ℕ) (next : World → Told) → length w.nodes ≡ nodes → event_of nodes line ≡ r → line_told w n line next ≡ or_bad n r (λ e. event_told n (step w e) next)
-line_is w nodes n line r next c e = ap (λ k. or_bad n (event_of k line) (λ e. event_told n (step w e) next)) c ∙ ap (λ q. or_bad n q (λ e. event_told n (step w e) next)) e
+line_is : (w : World) (nodes n : ℕ) (line : List ℕ) (r : Result Event ℕ) (next : World → Told) → length w.nodes ≡ nodes → built_event_of nodes line ≡ r → line_told w n line next ≡ or_bad n r (λ e. event_told n (step w e) next)
+line_is w nodes n line r next c e = ap (λ k. or_bad n (built_event_of k line) (λ e. event_told n (step w e) next)) c ∙ ap (λ q. or_bad n q (λ e. event_told n (step w e) next)) e
 
 -- a line that is no event
 pub fault_ends : (w0 w1 : Option (List ℕ)) (w : World) (nodes n : ℕ) (line : List ℕ) (fault : LineFault) (s : Status) (next : World → Told) → length w.nodes ≡ nodes
-    → Fails fault (event_of nodes line) → EndsAtLine w0 w1 n fault s → Says w0 w1 (line_told w n line next) s
+    → Fails fault (built_event_of nodes line) → EndsAtLine w0 w1 n fault s → Says w0 w1 (line_told w n line next) s
 fault_ends w0 w1 w nodes n line (faults.Bad field) s next c f e = subst (λ t. Says w0 w1 t s) (sym (line_is w nodes n line (Err field) next c f)) e
 fault_ends w0 w1 w nodes n line faults.NoMemory s next c f e = says_at_fault w0 w1 _ s (inr e.0) (keeps_front w0 w1 _ e.1)
 
-line_event : (w : World) (nodes n : ℕ) (line text : List ℕ) (e : Event) (c : Cluster) (r : Reply) (next : World → Told) → length w.nodes ≡ nodes → event_of nodes line ≡ Ok e → IsDone (step w e) c r → text ≡ reply_line n r
+line_event : (w : World) (nodes n : ℕ) (line text : List ℕ) (e : Event) (c : Cluster) (r : Reply) (next : World → Told) → length w.nodes ≡ nodes → built_event_of nodes line ≡ Ok e → IsDone (step w e) c r → text ≡ reply_line n r
     → line_told w n line next ≡ told_after text (next (step w e).0)
 line_event w nodes n line text e c r next k o d t =
     line_is w nodes n line (Ok e) next k o ∙ ap (λ (x : Reply). told_after (reply_line n x) (next (step w e).0)) (sym d.replied) ∙ ap (λ xs. told_after xs (next (step w e).0)) (sym t)
 
 -- a reply that is written in part
-pub reply_ends : (w0 w1 : Option (List ℕ)) (w : World) (nodes n : ℕ) (line text : List ℕ) (e : Event) (c : Cluster) (r : Reply) (s : Status) (next : World → Told) → length w.nodes ≡ nodes → event_of nodes line ≡ Ok e → IsDone (step w e) c r → text ≡ reply_line n r
+pub reply_ends : (w0 w1 : Option (List ℕ)) (w : World) (nodes n : ℕ) (line text : List ℕ) (e : Event) (c : Cluster) (r : Reply) (s : Status) (next : World → Told) → length w.nodes ≡ nodes → built_event_of nodes line ≡ Ok e → IsDone (step w e) c r → text ≡ reply_line n r
     → AppendsFront w0 w1 text → (s ≡ ends.WriteFault) ⊎ (s ≡ ends.NoMemory) → Says w0 w1 (line_told w n line next) s
 reply_ends w0 w1 w nodes n line text e c r s next k o d t f v =
     subst (λ x. Says w0 w1 x s) (sym (line_event w nodes n line text e c r next k o d t)) (says_at_fault w0 w1 _ s v (front_more w0 w1 text (next (step w e).0).bytes f))
 
 -- a reply that is written
-pub is_answered : (w0 w1 : Option (List ℕ)) (w : World) (nodes n : ℕ) (line text : List ℕ) (e : Event) (c : Cluster) (r : Reply) → length w.nodes ≡ nodes → event_of nodes line ≡ Ok e → IsDone (step w e) c r → text ≡ reply_line n r
+pub is_answered : (w0 w1 : Option (List ℕ)) (w : World) (nodes n : ℕ) (line text : List ℕ) (e : Event) (c : Cluster) (r : Reply) → length w.nodes ≡ nodes → built_event_of nodes line ≡ Ok e → IsDone (step w e) c r → text ≡ reply_line n r
     → Appends w0 w1 text → IsAnswered w n line c w0 w1
 is_answered w0 w1 w nodes n line text e c r k o d t a = record {
   world = (step w e).0;

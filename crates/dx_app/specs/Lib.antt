@@ -1,11 +1,5 @@
 pub mod Lines
 pub mod Output
-pub mod Plain
-pub mod Ends
-pub mod Deposits
-pub mod Blocks
-pub mod Nodes
-pub mod Held
-pub mod World
 pub mod Transcript
 pub mod Runs
+pub mod Causes

@@ -6,11 +6,11 @@ use Rattle.dx_types.specs.declared.status.Status.{Status}
 use Rattle.dx_types.specs.declared.status.Status.TheVariants.{Done, BadLine, Usage, KeptBad, KeptOther, Long, ReadFault, WriteFault, KeepFault, NoMemory}
 use Rattle.dx_scenario.specs.declared.fault.LineFault.{LineFault}
 use Rattle.dx_scenario.specs.declared.fault.LineFault.TheVariants as faults
-use Rattle.dx_app.specs.declared.cluster.Cluster.{Cluster}
+use Rattle.dx_cluster.specs.declared.cluster.Cluster.{Cluster}
 use Rattle.dx_app.specs.declared.lines.ReadError.{ReadError}
 use Rattle.dx_app.specs.declared.lines.ReadError.TheVariants as errors
 use Rattle.dx_app.specs.Output.{AppendsFront}
-use Rattle.dx_app.specs.World.{World, Stands}
+use Rattle.dx_cluster.specs.World.{World, Stands}
 use Rattle.dx_app.specs.Transcript.{Told, told_after, bad_line, line_told, rest_told, genesis_told, scenario}
 
 -- a fault of the outside, or want of memory

@@ -1,16 +1,19 @@
 -- What the program writes for its words and its input, and how it ends.
-use Rattle.std.specs.Prelude.{ℕ, suc, nat_lt, if◌then◌else◌, List, [], ◌∷◌, ◌++◌, length, Result, Ok, Err}
+use Rattle.std.specs.Prelude.{ℕ, suc, nat_lt, if◌then◌else◌, List, [], ◌∷◌, ◌++◌, length, Result, Ok, Err, Option, Some, None}
 use Rattle.dx_types.specs.declared.Genesis.{Genesis}
 use Rattle.dx_types.specs.declared.status.Status.{Status}
 use Rattle.dx_types.specs.declared.status.Status.TheVariants.{Done, BadLine, Usage, Long}
+use Rattle.dx_spec.specs.Step.{◌>>=◌}
 use Rattle.dx_scenario.specs.Genesis.{genesis_of}
+use Rattle.dx_scenario.specs.declared.event.Event.{Event}
 use Rattle.dx_scenario.specs.Events.{event_of}
 use Rattle.dx_print.specs.declared.replies.Word.TheVariants as words
 use Rattle.dx_print.specs.declared.replies.Reply.{Reply}
 use Rattle.dx_print.specs.Replies.{reply_line}
 use Rattle.dx_print.specs.Statuses.{last_line}
 use Rattle.dx_app.specs.Lines.{longest_line, cut}
-use Rattle.dx_app.specs.World.{World, world_of, heights, step}
+use Rattle.dx_cluster.specs.Built.{unbuilt_place}
+use Rattle.dx_cluster.specs.World.{World, world_of, heights, step}
 
 -- what is written, and the status
 pub record Told : Type 0 where
@@ -47,9 +50,18 @@ or_bad n (Ok x) next = next x
 abbrev pub event_told : ℕ → World × Reply → (World → Told) → Told
 event_told n done next = told_after (reply_line n done.1) (next done.0)
 
+-- the event, unless something in its line is not built, at this place
+abbrev pub or_unbuilt : Event → Option ℕ → Result Event ℕ
+or_unbuilt e None = Ok e
+or_unbuilt e (Some place) = Err place
+
+-- the event of a line in a scenario of so many nodes, where all of it is built, or the place of what is wrong
+abbrev pub built_event_of : ℕ → List ℕ → Result Event ℕ
+built_event_of nodes line = event_of nodes line >>= λ e. or_unbuilt e (unbuilt_place e)
+
 -- a line is read in a scenario of so many nodes, and then what follows it
 abbrev pub line_told : World → ℕ → List ℕ → (World → Told) → Told
-line_told w n line next = or_bad n (event_of (length w.nodes) line) (λ e. event_told n (step w e) next)
+line_told w n line next = or_bad n (built_event_of (length w.nodes) line) (λ e. event_told n (step w e) next)
 
 -- the lines from the n-th on, and the bytes behind the last newline
 unfoldable pub lines_told : World → ℕ → List (List ℕ) → List ℕ → Told

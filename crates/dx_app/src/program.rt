@@ -1,18 +1,19 @@
-ghost use Rattle.std.specs.Prelude.{◌≡◌, ◌≤◌, ◌⊎◌, [], ◌++◌, MatchResult, IfOk, IfErr, length};
+ghost use Rattle.std.specs.Prelude.{◌≡◌, ◌≤◌, ◌⊎◌, ℕ, List, [], ◌++◌, MatchResult, IfOk, IfErr, length};
 ghost use Rattle.std.specs.Io.KnownBytes.{Appends, IsAtEnd};
 ghost use Rattle.dx_io.specs.Causes.{Rose};
 ghost use Rattle.dx_types.specs.declared.status.Status.TheVariants as ends;
 ghost use Rattle.dx_spec.specs.Genesis.{IsNatFrom, IsGenesis};
 ghost use Rattle.dx_print.specs.Replies.{reply_line};
 ghost use Rattle.dx_app.specs.Output.{AppendsFront};
-ghost use Rattle.dx_app.specs.World.{World, Stands};
+ghost use Rattle.dx_cluster.specs.World.{World, Stands};
 ghost use Rattle.dx_app.specs.Transcript.{ended, genesis_reply, scenario, transcript};
 ghost use Rattle.dx_app.specs.Runs.{Says, IsRunOf, GoesOn, OpensTo};
+ghost use Rattle.dx_app.specs.Causes.{IsTaken, IsGoodScenario, IsFirstBad, IsTooLong, HadSurely, ComesExactly, IsWhole};
 
-use crate::cluster::Cluster;
 use crate::lines::{Cut, LineReader};
 use crate::output::write_text;
 use crate::replay::{end_at_line, end_badly, end_reading, replay_lines, write_last};
+use dx_cluster::Cluster;
 use dx_io::{Keeper, Sink, Source};
 use dx_print::{Reply, Word, reply};
 use dx_scenario::read_genesis;
@@ -77,24 +78,12 @@ fn greet<W: Sink>(alloc: Global, sink: &mut W, cluster: &Cluster) -> Result<(), 
 }
 
 /// Answers all lines of a source, as the scenario that they are.
-///
-/// The keeper is not called yet.
-pub fn replay_all<S: Source, W: Sink, K: Keeper>(
-    alloc: Global,
-    source: &mut S,
-    sink: &mut W,
-    keeper: &mut K,
-) -> Status
-    // What is written and the status are those of the scenario that the source had left; at a fault of
-    // the outside or for want of memory, a front of it is written.
+fn answer_all<S: Source, W: Sink>(alloc: Global, source: &mut S, sink: &mut W) -> Status
     ensures said { IsRunOf scenario (S.left source.old) (W.written sink.old) (W.written sink.new) result }
     ensures done { result ≡ ends.Done → IsAtEnd (S.left source.new) }
-
-    // A fault of the outside is an answer only where the count of that object's faults rose.
     ensures read_fault { result ≡ ends.ReadFault → Rose (S.faults source.old) (S.faults source.new) }
     ensures write_fault { result ≡ ends.WriteFault → Rose (W.faults sink.old) (W.faults sink.new) }
     ensures keep_fault { result ≡ ends.KeepFault → ⊥ }
-    ensures keeper { keeper.new ≡ keeper.old }
 {
     let mut reader = LineReader::new();
     let (count, genesis) = match open(alloc, &mut reader, source, sink) {
@@ -111,6 +100,41 @@ pub fn replay_all<S: Source, W: Sink, K: Keeper>(
     replay_lines(alloc, &mut cluster, &mut reader, source, sink)
 }
 
+/// Answers all lines of a source, as the scenario that they are.
+///
+/// The keeper is not called yet.
+pub fn replay_all<S: Source, W: Sink, K: Keeper>(
+    alloc: Global,
+    source: &mut S,
+    sink: &mut W,
+    keeper: &mut K,
+) -> Status
+    // What is written and the status are those of the scenario that the source had left; at a fault of
+    // the outside or for want of memory, a front of it is written.
+    ensures said { IsRunOf scenario (S.left source.old) (W.written sink.old) (W.written sink.new) result }
+    ensures done { result ≡ ends.Done → IsAtEnd (S.left source.new) }
+
+    // Each status comes exactly by its cause. Of several faults of lines the first ends the run.
+    ensures good { ComesExactly (S.left source.old) result ends.Done IsGoodScenario }
+    ensures bad_line { (line field : ℕ) → ComesExactly (S.left source.old) result (ends.BadLine line field) (λ input. IsFirstBad input line field) }
+    ensures long { ComesExactly (S.left source.old) result ends.Long IsTooLong }
+    ensures usage { result ≡ ends.Usage → ⊥ }
+    ensures kept_bad { (node height : ℕ) → result ≡ ends.KeptBad node height → ⊥ }
+    ensures kept_other { (node : ℕ) (kept ours : List ℕ) → result ≡ ends.KeptOther node kept ours → ⊥ }
+
+    // A fault of the outside is an answer only where the count of that object's faults rose.
+    ensures read_fault { result ≡ ends.ReadFault → Rose (S.faults source.old) (S.faults source.new) }
+    ensures write_fault { result ≡ ends.WriteFault → Rose (W.faults sink.old) (W.faults sink.new) }
+    ensures keep_fault { result ≡ ends.KeepFault → ⊥ }
+    ensures keeper { keeper.new ≡ keeper.old }
+
+    // A good scenario is answered whole where no count rises, unless memory is wanting.
+    ensures complete { HadSurely (S.left source.old) IsGoodScenario → ¬ Rose (S.faults source.old) (S.faults source.new) → ¬ Rose (W.faults sink.old) (W.faults sink.new)
+        → IsWhole scenario (S.left source.old) (W.written sink.old) (W.written sink.new) result }
+{
+    answer_all(alloc, source, sink)
+}
+
 /// Refuses the words, and ends the run.
 fn refuse_words<W: Sink>(alloc: Global, sink: &mut W) -> Status
     ensures said { Says (W.written sink.old) (W.written sink.new) (ended ends.Usage) result }
@@ -122,6 +146,20 @@ fn refuse_words<W: Sink>(alloc: Global, sink: &mut W) -> Status
         Ok(()) => status,
         Err(status) => status,
     }
+}
+
+/// Does what the words ask for. Any word is refused yet.
+fn obey<S: Source, W: Sink>(alloc: Global, words: &[String], source: &mut S, sink: &mut W) -> Status
+    ensures said { IsRunOf (transcript words.now) (S.left source.old) (W.written sink.old) (W.written sink.new) result }
+    ensures done { result ≡ ends.Done → IsAtEnd (S.left source.new) }
+    ensures read_fault { result ≡ ends.ReadFault → Rose (S.faults source.old) (S.faults source.new) }
+    ensures write_fault { result ≡ ends.WriteFault → Rose (W.faults sink.old) (W.faults sink.new) }
+    ensures keep_fault { result ≡ ends.KeepFault → ⊥ }
+{
+    if !words.is_empty() {
+        return refuse_words(alloc, sink);
+    }
+    answer_all(alloc, source, sink)
 }
 
 /// Does all that the program does: `words` are the program's words without its name. Any word is
@@ -138,14 +176,23 @@ pub fn run<S: Source, W: Sink, K: Keeper>(
     ensures said { IsRunOf (transcript words.now) (S.left source.old) (W.written sink.old) (W.written sink.new) result }
     ensures done { result ≡ ends.Done → IsAtEnd (S.left source.new) }
 
+    // Each status comes exactly by its cause. Of several faults of lines the first ends the run.
+    ensures good { ComesExactly (S.left source.old) result ends.Done (λ input. IsTaken words.now × IsGoodScenario input) }
+    ensures bad_line { (line field : ℕ) → ComesExactly (S.left source.old) result (ends.BadLine line field) (λ input. IsTaken words.now × IsFirstBad input line field) }
+    ensures long { ComesExactly (S.left source.old) result ends.Long (λ input. IsTaken words.now × IsTooLong input) }
+    ensures usage { ComesExactly (S.left source.old) result ends.Usage (λ input. ¬ IsTaken words.now) }
+    ensures kept_bad { (node height : ℕ) → result ≡ ends.KeptBad node height → ⊥ }
+    ensures kept_other { (node : ℕ) (kept ours : List ℕ) → result ≡ ends.KeptOther node kept ours → ⊥ }
+
     // A fault of the outside is an answer only where the count of that object's faults rose.
     ensures read_fault { result ≡ ends.ReadFault → Rose (S.faults source.old) (S.faults source.new) }
     ensures write_fault { result ≡ ends.WriteFault → Rose (W.faults sink.old) (W.faults sink.new) }
     ensures keep_fault { result ≡ ends.KeepFault → ⊥ }
     ensures keeper { keeper.new ≡ keeper.old }
+
+    // A good scenario is answered whole where no count rises, unless memory is wanting.
+    ensures complete { IsTaken words.now → HadSurely (S.left source.old) IsGoodScenario → ¬ Rose (S.faults source.old) (S.faults source.new) → ¬ Rose (W.faults sink.old) (W.faults sink.new)
+        → IsWhole (transcript words.now) (S.left source.old) (W.written sink.old) (W.written sink.new) result }
 {
-    if !words.is_empty() {
-        return refuse_words(alloc, sink);
-    }
-    replay_all(alloc, source, sink, keeper)
+    obey(alloc, words, source, sink)
 }

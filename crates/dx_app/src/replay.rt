@@ -4,16 +4,17 @@ ghost use Rattle.dx_io.specs.Causes.{Rose};
 ghost use Rattle.dx_types.specs.declared.status.Status.TheVariants as ends;
 ghost use Rattle.dx_print.specs.Statuses.{last_line};
 ghost use Rattle.dx_app.specs.Output.{AppendsFront};
-ghost use Rattle.dx_app.specs.World.{World, Stands};
+ghost use Rattle.dx_cluster.specs.World.{World, Stands};
 ghost use Rattle.dx_app.specs.Transcript.{Told, line_limit, ended, bad_line, line_told, rest_told};
 ghost use Rattle.dx_app.specs.Runs.{Says, IsRunOf, GoesOn, IsAnswered, EndsAtLine, EndsReading};
 
-use crate::cluster::Cluster;
 use crate::lines::{Cut, LineReader, ReadError};
 use crate::output::write_text;
+use crate::reading::read_built_event;
+use dx_cluster::Cluster;
 use dx_io::{Sink, Source};
 use dx_print::{last_line, reply};
-use dx_scenario::{LineFault, read_event};
+use dx_scenario::LineFault;
 use dx_types::Status;
 use std::alloc::Global;
 
@@ -86,7 +87,7 @@ fn answer_line<W: Sink>(
     ensures failed { IfErr result (λ s. s ≡ ends.WriteFault → Rose (W.faults sink.old) (W.faults sink.new)) }
     ensures others { IfErr result (λ s. (s ≡ ends.Done → ⊥) × (s ≡ ends.ReadFault → ⊥) × (s ≡ ends.KeepFault → ⊥)) }
 {
-    let event = match read_event(alloc, line, cluster.count()) {
+    let event = match read_built_event(alloc, line, cluster.count()) {
         Ok(event) => event,
         Err(fault) => return Err(end_at_line(alloc, sink, number, fault)),
     };

@@ -1,27 +1,85 @@
-use crate::run;
-use dx_io::{MemSink, MemSource, SureKeeper, SureSink, SureSource};
+//! Runs over kinds in memory: what is written, by hand, and each status once.
+
+ghost use Rattle.std.specs.Prelude.{Some};
+ghost use Rattle.dx_app.specs.Transcript.{scenario};
+ghost use Rattle.dx_app.specs.Causes.{IsGoodScenario, IsWhole};
+
+use crate::{replay_all, run};
+use dx_io::{SureKeeper, SureSink, SureSource};
 use dx_types::Status;
 use std::alloc::Global;
 use std::test::Fail;
 
-const DEPOSITS: &str =
-    "[\"genesis\",2,0,0,1,[500,200,5000,1500000,1000000],[[-10,-9,1000000,100000,-5,5000000000,50000,600000,500000000,1000000]]]\n[\"block\",0,1,3600,[],[[1,[1,0],1000],[1,[2,0],500]],[],[]]\n[\"commit\",0,0]\n[\"balance\",0,[1,0]]\n[\"balance\",1,[1,0]]\n[\"commit\",0,0]\n[\"commit\",1,7]\n";
+mod bad_lines;
+mod failing;
+mod limits;
+mod unbuilt;
+mod worked;
 
-const REPLIES: &str =
-    "1 genesis 0 0\n2 block ok\n3 commit good 1 0 0\n4 balance 1 1000 0\n5 balance none\n6 commit bad 0 0 0 26\n7 commit empty\n";
+/// A first line: two nodes, and no market.
+const GENESIS: &str = r#"["genesis",2,0,0,1,[500,200,5000,1500000,1000000],[]]"#;
+
+const DEPOSITS: &str =
+    r#"["genesis",2,0,0,1,[500,200,5000,1500000,1000000],[[-10,-9,1000000,100000,-5,5000000000,50000,600000,500000000,1000000]]]
+["block",0,1,3600,[],[[1,[1,0],1000],[1,[2,0],500]],[],[]]
+["commit",0,0]
+["balance",0,[1,0]]
+["balance",1,[1,0]]
+["commit",0,0]
+["commit",1,7]
+"#;
+
+const REPLIES: &str = "1 genesis 0 0
+2 block ok
+3 commit good 1 0 0
+4 balance 1 1000 0
+5 balance none
+6 commit bad 0 0 0 26
+7 commit empty
+";
 
 /// The status of a run over a source that does not fail, and what it wrote.
-fn outcome(alloc: Global, input: &str, words: &[String]) -> Result<(Status, SureSink), Fail> {
-    let mut source = SureSource::new(input.as_bytes().to_vec(alloc)?);
+fn outcome(alloc: Global, input: &[u8], words: &[String]) -> Result<(Status, SureSink), Fail> {
+    let mut source = SureSource::new(input.to_vec(alloc)?);
     let mut sink = SureSink::new(alloc);
     let mut keeper = SureKeeper::new(alloc);
     let status = run(alloc, words, &mut source, &mut sink, &mut keeper);
     Ok((status, sink))
 }
 
+/// The status of a run over two lines.
+fn status_of_lines(alloc: Global, first: &str, second: &[u8]) -> Result<Status, Fail> {
+    let mut input = first.as_bytes().to_vec(alloc)?;
+    input.push(b'\n')?;
+    input.extend_from_slice(second)?;
+    input.push(b'\n')?;
+    let (status, _) = outcome(alloc, input.as_slice(), &[])?;
+    Ok(status)
+}
+
+/// A good scenario over kinds that never fail is answered whole, unless memory is wanting: the counts
+/// of these kinds do not rise.
+fn answer_surely(alloc: Global, input: Vec<u8>, sink: &mut SureSink) -> Status
+    ensures { IsGoodScenario input.items → IsWhole scenario (Some input.items) (Some sink.old) (Some sink.new) result }
+{
+    let mut source = SureSource::new(input);
+    let mut keeper = SureKeeper::new(alloc);
+    replay_all(alloc, &mut source, sink, &mut keeper)
+}
+
 #[test]
 fn deposits_are_committed(rt: HostRuntime) -> Result<(), Fail> {
-    let (status, sink) = outcome(rt.alloc(), DEPOSITS, &[])?;
+    let alloc = rt.alloc();
+    let mut sink = SureSink::new(alloc);
+    let status = answer_surely(alloc, DEPOSITS.as_bytes().to_vec(alloc)?, &mut sink);
+    assert_eq!(rt; status, Status::Done);
+    assert_eq!(rt; sink.bytes(), REPLIES.as_bytes());
+    Ok(())
+}
+
+#[test]
+fn no_words_are_a_replay(rt: HostRuntime) -> Result<(), Fail> {
+    let (status, sink) = outcome(rt.alloc(), DEPOSITS.as_bytes(), &[])?;
     assert_eq!(rt; status, Status::Done);
     assert_eq!(rt; sink.bytes(), REPLIES.as_bytes());
     Ok(())
@@ -32,44 +90,22 @@ fn a_word_is_refused(rt: HostRuntime) -> Result<(), Fail> {
     let alloc = rt.alloc();
     let words = vec![in alloc; String::from_str(alloc, "--jobs")?]?;
     let usage = "usage: perpnode [--job replay|selfrun|generate] [--seed N] [--events N]\n";
-    let (status, sink) = outcome(alloc, DEPOSITS, words.as_slice())?;
+    let (status, sink) = outcome(alloc, DEPOSITS.as_bytes(), words.as_slice())?;
     assert_eq!(rt; status, Status::Usage);
     assert_eq!(rt; sink.bytes(), usage.as_bytes());
     Ok(())
 }
 
-/// With ample memory a line is answered, and one that is not built is a bad line.
+/// The replies to all lines before a bad one are written, then the fault.
 #[test]
-fn there_is_memory(rt: HostRuntime) -> Result<(), Fail> {
-    let input = "[\"genesis\",1,0,0,1,[500,200,5000,1500000,1000000],[]]\n[\"audit\",0]\n";
-    let (status, sink) = outcome(rt.alloc(), input, &[])?;
-    assert_eq!(rt; status, Status::BadLine { line: 2, field: 0 });
-    assert_eq!(rt; sink.bytes(), "1 genesis 0\nfault 1 2 0\n".as_bytes());
-    Ok(())
-}
-
-/// The first read gives the whole input, and the second fails where the end would be.
-#[test]
-fn a_failed_read_ends_the_run(rt: HostRuntime) -> Result<(), Fail> {
-    let alloc = rt.alloc();
-    let mut source = MemSource::new(DEPOSITS.as_bytes().to_vec(alloc)?, vec![in alloc; 2]?);
-    let mut sink = SureSink::new(alloc);
-    let mut keeper = SureKeeper::new(alloc);
-    let status = run(alloc, &[], &mut source, &mut sink, &mut keeper);
-    assert_eq!(rt; status, Status::ReadFault);
-    assert_eq!(rt; sink.bytes(), REPLIES.as_bytes());
-    Ok(())
-}
-
-/// Each reply is one write here, and the third fails.
-#[test]
-fn a_failed_write_ends_the_run(rt: HostRuntime) -> Result<(), Fail> {
-    let alloc = rt.alloc();
-    let mut source = SureSource::new(DEPOSITS.as_bytes().to_vec(alloc)?);
-    let mut sink = MemSink::new(alloc, vec![in alloc; 3]?);
-    let mut keeper = SureKeeper::new(alloc);
-    let status = run(alloc, &[], &mut source, &mut sink, &mut keeper);
-    assert_eq!(rt; status, Status::WriteFault);
-    assert_eq!(rt; sink.bytes(), "1 genesis 0 0\n2 block ok\n".as_bytes());
+fn a_bad_line_ends_a_run(rt: HostRuntime) -> Result<(), Fail> {
+    let input =
+        "[\"genesis\",1,0,0,1,[500,200,5000,1500000,1000000],[]]\n[\"commit\",0,0]\n[\"commit\",0]\n[\"commit\",0,0]\n";
+    let (status, sink) = outcome(rt.alloc(), input.as_bytes(), &[])?;
+    assert_eq!(rt; status, Status::BadLine { line: 3, field: 2 });
+    assert_eq!(rt;
+        sink.bytes(),
+        "1 genesis 0\n2 commit empty\nfault 1 3 2\n".as_bytes()
+    );
     Ok(())
 }

@@ -1,13 +1,16 @@
 //! Prints what the program writes: the line of each reply, and the last line of a run.
 //!
-//! It stands on `dx_types` for what a reply tells. `reply` gives exactly the bytes that the definition
-//! `reply_line` has for a line's number and its reply, and `last_line` those that `last_line` has for a
-//! status, or there was no memory.
+//! It stands on `dx_types` for what a reply tells, and on `hex` for bytes. [`reply`] gives exactly the
+//! bytes that the definition `reply_line` has for a line's number and its reply, and [`last_line`] those
+//! that `last_line` has for a status, or there was no memory. The texts are those of docs/FORMAT.md,
+//! Events, Replies and Audit.
 //!
-//! One more event is a `Word` and the `Answer`s that it has, each in `src/` and in `specs/`.
+//! One more event is a [`Word`] and the [`Answer`]s that it has, each in `src/` and in `specs/`.
 #![tactic(auto)]
 
 mod answer;
+mod audits;
+mod balances;
 mod lines;
 mod numbers;
 mod replies;

@@ -12,9 +12,24 @@ fn push_word(out: &mut Vec<u8>, word: Word) -> Result<(), NoMemory>
 {
     match word {
         Word::Genesis => push_text(out, " genesis"),
+        Word::Place => push_text(out, " place"),
+        Word::Cancel => push_text(out, " cancel"),
+        Word::CancelAll => push_text(out, " cancelall"),
+        Word::Message => push_text(out, " message"),
+        Word::Feed => push_text(out, " feed"),
+        Word::Sweep => push_text(out, " sweep"),
+        Word::Propose => push_text(out, " propose"),
         Word::Block => push_text(out, " block"),
+        Word::Show => push_text(out, " show"),
+        Word::Check => push_text(out, " check"),
         Word::Commit => push_text(out, " commit"),
         Word::Balance => push_text(out, " balance"),
+        Word::Spec => push_text(out, " spec"),
+        Word::Filled => push_text(out, " filled"),
+        Word::Best => push_text(out, " best"),
+        Word::Audit => push_text(out, " audit"),
+        Word::Digest => push_text(out, " digest"),
+        Word::Restart => push_text(out, " restart"),
     }
 }
 

@@ -1,67 +1,59 @@
 -- What a line from the second on says.
-use Rattle.std.specs.Prelude.{ℕ, ◌-◌, ◌<◌, List, codes, if◌then◌else◌, Option, Some, None, option_and_then, Result, Ok}
-use Rattle.std.specs.Str.{bytes_eq}
+use Rattle.std.specs.Prelude.{ℕ, ◌<◌, ◌≤◌, List, Result}
 use Rattle.serde_json.specs.Data.{Data}
-use Rattle.serde_json.specs.Find.{as_str}
-use Rattle.dx_spec.specs.Step.{◌>>=◌, ◌>>◌}
+use Rattle.dx_spec.specs.Step.{◌>>=◌}
 use Rattle.dx_scenario.specs.declared.event.Event.{Event}
-use Rattle.dx_scenario.specs.declared.event.Event.TheVariants.{Handed, Commit, Balance}
-use Rattle.dx_scenario.specs.declared.event.Keyword.{Keyword}
-use Rattle.dx_scenario.specs.declared.event.Keyword.TheVariants as keywords
-use Rattle.dx_scenario.specs.Parts.{part, closed, nat_part, value_of}
-use Rattle.dx_scenario.specs.Built.{IsBuilt}
-use Rattle.dx_scenario.specs.Blocks.{subaccount_part, block_of}
-
--- the last slot for a block
-abbrev pub last_slot : ℕ
-last_slot = 255
-
--- a block is handed in: slot, and the block
-unfoldable pub handed_of : Data → Result Event ℕ
-handed_of d = do
-  slot ← nat_part 0 last_slot 1 1 d
-  block ← block_of d
-  Ok (Handed slot block)
-
--- a commit: node and slot
-unfoldable pub commit_of : ℕ → Data → Result Event ℕ
-commit_of nodes d = do
-  node ← nat_part 0 (nodes - 1) 1 1 d
-  slot ← nat_part 0 last_slot 2 2 d
-  closed 3 3 d
-  Ok (Commit node slot)
-
--- a balance: node and account
-unfoldable pub balance_of : ℕ → Data → Result Event ℕ
-balance_of nodes d = do
-  node ← nat_part 0 (nodes - 1) 1 1 d
-  who ← subaccount_part 2 2 d
-  closed 3 3 d
-  Ok (Balance node who)
-
--- the words of lines; any other is unknown
-abbrev pub keyword_named : List ℕ → Option Keyword
-keyword_named text =
-    if bytes_eq text (codes "block") then Some keywords.Block
-    else (if bytes_eq text (codes "commit") then Some keywords.Commit
-    else (if bytes_eq text (codes "balance") then Some keywords.Balance else None))
-
--- the first element of a line
-abbrev pub keyword_part : Data → Result Keyword ℕ
-keyword_part d = part (λ v. option_and_then keyword_named (as_str v)) 0 0 d
+use Rattle.dx_scenario.specs.declared.event.Event.TheVariants.{Place, Cancel, CancelAll, Message, Feed, Sweep, Restart, Propose, Handed, Show, Check, Commit, Balance, Spec, Filled, Best, Audit, Digest}
+use Rattle.dx_scenario.specs.declared.words.Keyword.{Keyword}
+use Rattle.dx_scenario.specs.declared.words.Keyword.TheVariants as keywords
+use Rattle.dx_scenario.specs.Parts.{value_of, last_slot}
+use Rattle.dx_scenario.specs.Words.{keyword_part}
+use Rattle.dx_scenario.specs.NodeEvents.{place_event, cancel_event, cancel_all_event, message_event, feed_event, sweep_event, restart_event}
+use Rattle.dx_scenario.specs.SlotEvents.{propose_event, handed_event, show_event, check_event, commit_event}
+use Rattle.dx_scenario.specs.ReadEvents.{balance_event, spec_event, filled_event, best_event, audit_event, digest_event}
 
 -- the elements behind a word
-abbrev pub parts_of : ℕ → Data → Keyword → Result Event ℕ
-parts_of nodes d keywords.Block = handed_of d
-parts_of nodes d keywords.Commit = commit_of nodes d
-parts_of nodes d keywords.Balance = balance_of nodes d
+unfoldable pub event_behind : ℕ → Data → Keyword → Result Event ℕ
+event_behind nodes d keywords.Place = place_event nodes d
+event_behind nodes d keywords.Cancel = cancel_event nodes d
+event_behind nodes d keywords.CancelAll = cancel_all_event nodes d
+event_behind nodes d keywords.Message = message_event nodes d
+event_behind nodes d keywords.Feed = feed_event nodes d
+event_behind nodes d keywords.Sweep = sweep_event nodes d
+event_behind nodes d keywords.Restart = restart_event nodes d
+event_behind nodes d keywords.Propose = propose_event nodes d
+event_behind nodes d keywords.Block = handed_event d
+event_behind nodes d keywords.Show = show_event d
+event_behind nodes d keywords.Check = check_event nodes d
+event_behind nodes d keywords.Commit = commit_event nodes d
+event_behind nodes d keywords.Balance = balance_event nodes d
+event_behind nodes d keywords.Spec = spec_event nodes d
+event_behind nodes d keywords.Filled = filled_event nodes d
+event_behind nodes d keywords.Best = best_event nodes d
+event_behind nodes d keywords.Audit = audit_event nodes d
+event_behind nodes d keywords.Digest = digest_event nodes d
 
 -- the event of a line, in a scenario of so many nodes, or the place of what is wrong
 abbrev pub event_of : ℕ → List ℕ → Result Event ℕ
-event_of nodes line = value_of line >>= λ d. keyword_part d >>= parts_of nodes d
+event_of nodes line = value_of line >>= λ d. keyword_part d >>= event_behind nodes d
 
--- the event's node is one of the nodes, and its block has only members that are built
+-- the event's node is one of the nodes, and its slot is one of the slots
 abbrev pub IsOf : ℕ → Event → Type 0
-IsOf nodes (Handed slot block) = IsBuilt block
-IsOf nodes (Commit node slot) = node < nodes
+IsOf nodes (Place node order) = node < nodes
+IsOf nodes (Cancel node id until) = node < nodes
+IsOf nodes (CancelAll node who) = node < nodes
+IsOf nodes (Message node msg) = node < nodes
+IsOf nodes (Feed node market price) = node < nodes
+IsOf nodes (Sweep node who) = node < nodes
+IsOf nodes (Restart node) = node < nodes
+IsOf nodes (Propose node slot time) = (node < nodes) × (slot ≤ last_slot)
+IsOf nodes (Handed slot block) = slot ≤ last_slot
+IsOf nodes (Show slot) = slot ≤ last_slot
+IsOf nodes (Check node slot) = (node < nodes) × (slot ≤ last_slot)
+IsOf nodes (Commit node slot) = (node < nodes) × (slot ≤ last_slot)
 IsOf nodes (Balance node who) = node < nodes
+IsOf nodes (Spec node who) = node < nodes
+IsOf nodes (Filled node id) = node < nodes
+IsOf nodes (Best node market) = node < nodes
+IsOf nodes (Audit node) = node < nodes
+IsOf nodes (Digest node) = node < nodes

@@ -7,13 +7,10 @@ use Rattle.dx_types.specs.declared.MarketParams.{MarketParams}
 use Rattle.dx_types.specs.declared.Params.{Params}
 use Rattle.dx_types.specs.declared.Genesis.{Genesis}
 use Rattle.dx_spec.specs.Step.{◌>>=◌, ◌>>◌, refuse}
+use Rattle.dx_spec.specs.Bounds.{last_moment}
 use Rattle.dx_spec.specs.Genesis.{IsNatFrom}
 use Rattle.dx_scenario.specs.declared.genesis.Rates.{Rates}
-use Rattle.dx_scenario.specs.Parts.{part, closed, nat_part, int_part, items_part, item_count, each_of, value_of}
-
--- the last time
-abbrev pub last_moment : ℕ
-last_moment = 4_000_000_000
+use Rattle.dx_scenario.specs.Parts.{part, closed, value_part, nat_part, int_part, items_part, item_count, each_of, value_of}
 
 -- the power of ten by which size times price is value is from -18 to 6
 abbrev pub is_value_exponent : ℤ → ℤ → Bool
@@ -67,7 +64,7 @@ markets_of place items = do
 unfoldable pub params_in : Data → Result Params ℕ
 params_in d = do
   min_votes ← nat_part 1 60 4 4 d
-  rates_value ← part (λ v. Some v) 5 5 d
+  rates_value ← value_part 5 5 d
   rates ← rates_of 5 rates_value
   items ← items_part 6 6 d
   markets ← markets_of 6 items

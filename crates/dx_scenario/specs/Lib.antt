@@ -1,5 +1,12 @@
 pub mod Parts
 pub mod Genesis
-pub mod Built
+pub mod Names
+pub mod Orders
+pub mod Operations
+pub mod Messages
 pub mod Blocks
+pub mod Words
+pub mod NodeEvents
+pub mod SlotEvents
+pub mod ReadEvents
 pub mod Events

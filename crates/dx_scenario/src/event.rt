@@ -1,123 +1,195 @@
-ghost use Rattle.std.specs.Prelude.{◌≡◌, ◌<◌, IfOk};
+ghost use Rattle.std.specs.Prelude.{◌<◌, IfOk};
 ghost use Rattle.serde_json.specs.View.{view};
 ghost use Rattle.dx_scenario.specs.Parts.{Reads};
-ghost use Rattle.dx_scenario.specs.Events.{handed_of, commit_of, balance_of, keyword_named, keyword_part, event_of, IsOf};
+ghost use Rattle.dx_scenario.specs.Events.{event_behind, event_of, IsOf};
 
-use crate::blocks::{block_of, subaccount_part};
 use crate::fault::LineFault;
-use crate::parts::{closed, u32_part};
+use crate::node_events::{
+    cancel_all_event, cancel_event, feed_event, message_event, place_event, restart_event,
+    sweep_event,
+};
+use crate::read_events::{
+    audit_event, balance_event, best_event, digest_event, filled_event, spec_event,
+};
+use crate::slot_events::{check_event, commit_event, handed_event, propose_event, show_event};
 use crate::value::value_of;
-use dx_types::{Block, SubaccountId};
+use crate::words::{Keyword, keyword_part};
+use dx_types::{Block, Msg, Order, OrderId, SubaccountId};
 use serde_json::Value;
 use std::alloc::Global;
 
-const LAST_SLOT: u32 = 255;
-
-/// What a line asks for, from the second line on.
+/// What a line asks for, from the second line on. Nodes and markets count from 0, and slots are 0 to
+/// 255. No rule of the exchange is tested yet: a number may be any of its type.
 #[derive(Debug, PartialEq, Eq, Drop)]
 pub enum Event {
-    /// A block is put into a slot.
-    Handed {
-        /// The slot, from 0 to 255.
-        slot: u32,
-        /// The block.
-        block: Block,
-    },
-    /// A node commits the block of a slot.
-    Commit {
-        /// The node, from 0.
+    /// A node takes a short-term order.
+    Place {
+        /// The node.
         node: u32,
-        /// The slot, from 0 to 255.
-        slot: u32,
+        /// The order.
+        order: Order,
     },
-    /// A node tells an account's committed balance.
-    Balance {
-        /// The node, from 0.
+    /// A node cancels a short-term order.
+    Cancel {
+        /// The node.
+        node: u32,
+        /// The order's id, with flags 0.
+        id: OrderId,
+        /// The last height at which the cancel counts.
+        until: u32,
+    },
+    /// A node cancels all resting short-term orders of an account.
+    CancelAll {
+        /// The node.
         node: u32,
         /// The account.
         who: SubaccountId,
     },
+    /// A node takes a message into its pool.
+    Message {
+        /// The node.
+        node: u32,
+        /// The message.
+        msg: Msg,
+    },
+    /// A node gets its own price of a market.
+    Feed {
+        /// The node.
+        node: u32,
+        /// The market.
+        market: u32,
+        /// The price, in the market's price unit.
+        price: u64,
+    },
+    /// A node liquidates and deleverages an account.
+    Sweep {
+        /// The node.
+        node: u32,
+        /// The account.
+        who: SubaccountId,
+    },
+    /// A node makes a block and puts it into a slot.
+    Propose {
+        /// The node.
+        node: u32,
+        /// The slot.
+        slot: u32,
+        /// The block's time, in seconds.
+        time: u32,
+    },
+    /// A block is put into a slot.
+    Handed {
+        /// The slot.
+        slot: u32,
+        /// The block.
+        block: Block,
+    },
+    /// The bytes of a slot's block.
+    Show {
+        /// The slot.
+        slot: u32,
+    },
+    /// A node tests the block of a slot.
+    Check {
+        /// The node.
+        node: u32,
+        /// The slot.
+        slot: u32,
+    },
+    /// A node commits the block of a slot.
+    Commit {
+        /// The node.
+        node: u32,
+        /// The slot.
+        slot: u32,
+    },
+    /// A node tells an account's committed balance.
+    Balance {
+        /// The node.
+        node: u32,
+        /// The account.
+        who: SubaccountId,
+    },
+    /// A node tells an account's balance after its queue.
+    Spec {
+        /// The node.
+        node: u32,
+        /// The account.
+        who: SubaccountId,
+    },
+    /// A node tells the filled amounts of an order.
+    Filled {
+        /// The node.
+        node: u32,
+        /// The order's id.
+        id: OrderId,
+    },
+    /// A node tells the best orders of a market.
+    Best {
+        /// The node.
+        node: u32,
+        /// The market.
+        market: u32,
+    },
+    /// A node adds up its committed state.
+    Audit {
+        /// The node.
+        node: u32,
+    },
+    /// A node hashes its committed state.
+    Digest {
+        /// The node.
+        node: u32,
+    },
+    /// A node starts again from its kept blocks.
+    Restart {
+        /// The node.
+        node: u32,
+    },
 }
 
-/// The first element of a line.
-#[derive(Clone, Copy, Debug, PartialEq, Eq)]
-enum Keyword {
-    Block,
-    Commit,
-    Balance,
-}
-
-fn keyword_named(text: &str) -> Option<Keyword>
-    ensures { result ≡ keyword_named text.now }
-{
-    if text == "block" {
-        return Some(Keyword::Block);
-    }
-    if text == "commit" {
-        return Some(Keyword::Commit);
-    }
-    if text == "balance" {
-        return Some(Keyword::Balance);
-    }
-    None
-}
-
-fn keyword_part(line: &Value) -> Result<Keyword, LineFault>
-    ensures { Reads result (keyword_part (view line.now)) }
-{
-    line.get(0)
-        .and_then(Value::as_str)
-        .and_then(keyword_named)
-        .ok_or(LineFault::Bad { field: 0 })
-}
-
-#[tactic(auto, unfolding(crate::specs::Events::handed_of))]
-fn handed_of(alloc: Global, nodes: u32, line: &Value) -> Result<Event, LineFault>
-    ensures read { Reads result (handed_of (view line.now)) }
-    ensures of { IfOk result (λ event. IsOf nodes event) }
-{
-    let slot = u32_part(line, 1, 1, 0, LAST_SLOT)?;
-    let block = block_of(alloc, line)?;
-    Ok(Event::Handed { slot, block })
-}
-
-#[tactic(auto, unfolding(crate::specs::Events::commit_of))]
-fn commit_of(nodes: u32, line: &Value) -> Result<Event, LineFault>
+#[tactic(auto, unfolding(crate::specs::Events::event_behind))]
+fn event_behind(
+    alloc: Global,
+    line: &Value,
+    nodes: u32,
+    keyword: Keyword,
+) -> Result<Event, LineFault>
     requires { 0 < nodes }
-    ensures read { Reads result (commit_of nodes (view line.now)) }
+    ensures read { Reads result (event_behind nodes (view line.now) keyword) }
     ensures of { IfOk result (λ event. IsOf nodes event) }
 {
-    let node = u32_part(line, 1, 1, 0, nodes - 1)?;
-    let slot = u32_part(line, 2, 2, 0, LAST_SLOT)?;
-    closed(line, 3, 3)?;
-    Ok(Event::Commit { node, slot })
-}
-
-#[tactic(auto, unfolding(crate::specs::Events::balance_of))]
-fn balance_of(nodes: u32, line: &Value) -> Result<Event, LineFault>
-    requires { 0 < nodes }
-    ensures read { Reads result (balance_of nodes (view line.now)) }
-    ensures of { IfOk result (λ event. IsOf nodes event) }
-{
-    let node = u32_part(line, 1, 1, 0, nodes - 1)?;
-    let who = subaccount_part(line, 2, 2)?;
-    closed(line, 3, 3)?;
-    Ok(Event::Balance { node, who })
+    match keyword {
+        Keyword::Place => place_event(line, nodes),
+        Keyword::Cancel => cancel_event(line, nodes),
+        Keyword::CancelAll => cancel_all_event(line, nodes),
+        Keyword::Message => message_event(line, nodes),
+        Keyword::Feed => feed_event(line, nodes),
+        Keyword::Sweep => sweep_event(line, nodes),
+        Keyword::Restart => restart_event(line, nodes),
+        Keyword::Propose => propose_event(line, nodes),
+        Keyword::Block => handed_event(alloc, line),
+        Keyword::Show => show_event(line),
+        Keyword::Check => check_event(line, nodes),
+        Keyword::Commit => commit_event(line, nodes),
+        Keyword::Balance => balance_event(line, nodes),
+        Keyword::Spec => spec_event(line, nodes),
+        Keyword::Filled => filled_event(line, nodes),
+        Keyword::Best => best_event(line, nodes),
+        Keyword::Audit => audit_event(line, nodes),
+        Keyword::Digest => digest_event(line, nodes),
+    }
 }
 
 /// The event of a line, in a scenario of so many nodes.
 ///
-/// `Bad` is exactly where the line is no event. The event's node is one of the nodes, and its block has
-/// only members that are built.
+/// `Bad` is exactly where the line is no event. The event's node is one of the nodes, and its slot one
+/// of the slots.
 pub fn read_event(alloc: Global, line: &[u8], nodes: u32) -> Result<Event, LineFault>
     requires { 0 < nodes }
     ensures read { Reads result (event_of nodes line.now) }
     ensures of { IfOk result (λ event. IsOf nodes event) }
 {
     let value = value_of(alloc, line)?;
-    match keyword_part(&value)? {
-        Keyword::Block => handed_of(alloc, nodes, &value),
-        Keyword::Commit => commit_of(nodes, &value),
-        Keyword::Balance => balance_of(nodes, &value),
-    }
+    event_behind(alloc, &value, nodes, keyword_part(&value)?)
 }

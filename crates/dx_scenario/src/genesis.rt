@@ -2,11 +2,13 @@ ghost use Rattle.std.specs.Prelude.{◌≡◌, ◌<◌, ◌≤◌, pos, negsuc, 
 ghost use Rattle.serde_json.specs.View.{view, items_view};
 ghost use Rattle.dx_spec.specs.Step.{refuse};
 ghost use Rattle.dx_spec.specs.Genesis.{IsFrom, IsNatFrom, IsMarketParams, IsParams, IsGenesis};
-ghost use Rattle.dx_scenario.specs.Parts.{Reads, value_of};
+ghost use Rattle.dx_scenario.specs.Parts.{Finds, Reads, value_of};
 ghost use Rattle.dx_scenario.specs.Genesis.{is_value_exponent, market_of, rates_of, IsRates, markets_of, params_in, genesis_in, genesis_of, genesis_word};
 
 use crate::fault::LineFault;
-use crate::parts::{closed, i32_part, i64_part, items_part, u32_part, u64_part, value_part};
+use crate::parts::{
+    closed, i32_within, i64_within, items_part, u32_within, u64_within, value_part,
+};
 use crate::shape::{Shape, each_of};
 use crate::value::value_of;
 use dx_types::{Genesis, List, MarketParams, Params};
@@ -35,7 +37,7 @@ struct Rates {
 fn check_exponent(place: u32, price_exponent: i32, atomic: i32) -> Result<(), LineFault>
     requires exponent { IsFrom (negsuc 17) (pos 12) price_exponent }
     requires atomic { IsFrom (negsuc 17) (pos 0) atomic }
-    ensures read { Reads result (refuse place (not (is_value_exponent price_exponent atomic))) }
+    ensures read { Finds result (refuse place (not (is_value_exponent price_exponent atomic))) }
     ensures good { OnOk result (IsFrom (negsuc 17) (pos 6) (price_exponent +ℤ atomic +ℤ pos 6)) }
 {
     let exponent = price_exponent + atomic + 6;
@@ -50,20 +52,20 @@ fn check_exponent(place: u32, price_exponent: i32, atomic: i32) -> Result<(), Li
 
 #[tactic(auto, unfolding(crate::specs::Genesis::market_of))]
 fn market_of(value: &Value, place: u32) -> Result<MarketParams, LineFault>
-    ensures read { Reads result (market_of place (view value.now)) }
+    ensures read { Finds result (market_of place (view value.now)) }
     ensures good { IfOk result (λ market. IsMarketParams market) }
 {
-    let atomic = i32_part(value, place, 0, -18, 0)?;
-    let conversion = i32_part(value, place, 1, -12, 0)?;
-    let step = u64_part(value, place, 2, 1, 281_474_976_710_655)?;
-    let tick = u64_part(value, place, 3, 1, 1_099_511_627_775)?;
-    let price_exponent = i32_part(value, place, 4, -18, 12)?;
+    let atomic = i32_within(value, place, 0, -18, 0)?;
+    let conversion = i32_within(value, place, 1, -12, 0)?;
+    let step = u64_within(value, place, 2, 1, 281_474_976_710_655)?;
+    let tick = u64_within(value, place, 3, 1, 1_099_511_627_775)?;
+    let price_exponent = i32_within(value, place, 4, -18, 12)?;
     check_exponent(place, price_exponent, atomic)?;
-    let price = u64_part(value, place, 5, 1, 281_474_976_710_655)?;
-    let initial = u32_part(value, place, 6, 1, 1_000_000)?;
-    let maintenance = u32_part(value, place, 7, 1, 1_000_000)?;
-    let impact = u64_part(value, place, 8, 1, 72_057_594_037_927_935)?;
-    let rate_cap = u32_part(value, place, 9, 0, 1_000_000)?;
+    let price = u64_within(value, place, 5, 1, 281_474_976_710_655)?;
+    let initial = u32_within(value, place, 6, 1, 1_000_000)?;
+    let maintenance = u32_within(value, place, 7, 1, 1_000_000)?;
+    let impact = u64_within(value, place, 8, 1, 72_057_594_037_927_935)?;
+    let rate_cap = u32_within(value, place, 9, 0, 1_000_000)?;
     closed(value, place, 10)?;
     Ok(MarketParams {
         atomic,
@@ -81,14 +83,14 @@ fn market_of(value: &Value, place: u32) -> Result<MarketParams, LineFault>
 
 #[tactic(auto, unfolding(crate::specs::Genesis::rates_of))]
 fn rates_of(value: &Value, place: u32) -> Result<Rates, LineFault>
-    ensures read { Reads result (rates_of place (view value.now)) }
+    ensures read { Finds result (rates_of place (view value.now)) }
     ensures good { IfOk result (λ rates. IsRates rates) }
 {
-    let taker = u32_part(value, place, 0, 0, 100_000)?;
-    let maker = u32_part(value, place, 1, 0, 100_000)?;
-    let liq_cap = u32_part(value, place, 2, 0, 1_000_000)?;
-    let spread = u32_part(value, place, 3, 0, 10_000_000)?;
-    let bankruptcy = u32_part(value, place, 4, 1_000_000, 10_000_000)?;
+    let taker = u32_within(value, place, 0, 0, 100_000)?;
+    let maker = u32_within(value, place, 1, 0, 100_000)?;
+    let liq_cap = u32_within(value, place, 2, 0, 1_000_000)?;
+    let spread = u32_within(value, place, 3, 0, 10_000_000)?;
+    let bankruptcy = u32_within(value, place, 4, 1_000_000, 10_000_000)?;
     closed(value, place, 5)?;
     Ok(Rates {
         taker,
@@ -104,7 +106,7 @@ impl Shape for MarketParams {
 
     ghost is_good = { IsMarketParams };
 
-    fn of(value: &Value, place: u32) -> Result<MarketParams, LineFault> {
+    fn of(_alloc: Global, value: &Value, place: u32) -> Result<MarketParams, LineFault> {
         market_of(value, place)
     }
 }
@@ -127,7 +129,7 @@ fn params_in(alloc: Global, line: &Value) -> Result<Params, LineFault>
     ensures read { Reads result (params_in (view line.now)) }
     ensures good { IfOk result (λ params. IsParams params) }
 {
-    let min_votes = u32_part(line, 4, 4, 1, 60)?;
+    let min_votes = u32_within(line, 4, 4, 1, 60)?;
     let rates = rates_of(value_part(line, 5, 5)?, 5)?;
     let markets = markets_of(alloc, items_part(line, 6, 6)?, 6)?;
     Ok(Params {
@@ -147,9 +149,9 @@ fn genesis_in(alloc: Global, line: &Value) -> Result<(u32, Genesis), LineFault>
     ensures nodes { IfOk result (λ r. IsNatFrom 1 16 r.0) }
     ensures good { IfOk result (λ r. IsGenesis r.1) }
 {
-    let nodes = u32_part(line, 1, 1, 1, MOST_NODES)?;
-    let time = u32_part(line, 2, 2, 0, LAST_MOMENT)?;
-    let insurance = i64_part(line, 3, 3, 0, MOST_INSURANCE)?;
+    let nodes = u32_within(line, 1, 1, 1, MOST_NODES)?;
+    let time = u32_within(line, 2, 2, 0, LAST_MOMENT)?;
+    let insurance = i64_within(line, 3, 3, 0, MOST_INSURANCE)?;
     let params = params_in(alloc, line)?;
     closed(line, 7, 7)?;
     let genesis = Genesis {

@@ -5,18 +5,25 @@
 //! answer what the definitions `genesis_of` and `event_of` say of the bytes of a line, or that there
 //! was no memory. A line that is no event is refused with the place of its first wrong element.
 //!
-//! A word, an operation, a message, a vote or a price that is not built yet is refused with place 0.
-//! One more event is a variant of `Event`, a word of `keyword_named`, and a reader of its parts, each
-//! in `src/` and in `specs/`; one more kind of member of a list is a `Shape`.
+//! One more event is a variant of `Event`, a word of `Keyword`, and a reader of what stands behind it,
+//! each in `src/` and in `specs/`; one more kind of member of a list is a `Shape`.
 #![tactic(auto)]
 
 mod blocks;
 mod event;
 mod fault;
 mod genesis;
+mod messages;
+mod names;
+mod node_events;
+mod operations;
+mod orders;
 mod parts;
+mod read_events;
 mod shape;
+mod slot_events;
 mod value;
+mod words;
 
 pub use event::{Event, read_event};
 pub use fault::LineFault;

@@ -1,15 +1,24 @@
-use Rattle.dx_app.specs.World.{world_of}
-use Rattle.dx_app.proofs.Runs.{run_then, greeting_ends, greeted}
+use Rattle.std.proofs.Common.{refl}
+use Rattle.dx_app.proofs.Caused.{lines_good, lines_bad, lines_long, lines_never, lines_whole}
 use Rattle.dx_app.proofs.program.replay_all.Goals as goal
 
-pub returns-in-Err-greet-clause-said : goal.returns-in-Err-greet-clause-said
-returns-in-Err-greet-clause-said g c =
-    let written = c.in-Err-greet.ensures.written (world_of c.in-Ok.first.0 c.in-Ok.first.1) c.in-Ok-new.ensures in
-    let front = rw c.in-Ok.ensures.silent at written in
-    greeting_ends c.in-Ok.first _ _ _ _ _ c.in-Err-greet.status c.in-Ok.ensures.opened front.0 front.1
+pub returns-clause-good : goal.returns-clause-good
+returns-clause-good g c = lines_good _ _ _ c.answer_all.result c.answer_all.ensures.said
 
-pub returns-clause-said : goal.returns-clause-said
-returns-clause-said g c =
-    let written = c.in-Ok-greet.ensures.written (world_of c.in-Ok.first.0 c.in-Ok.first.1) c.in-Ok-new.ensures in
-    let all = rw c.in-Ok.ensures.silent at written in
-    run_then _ _ _ _ _ _ _ _ 2 c.replay_lines.result (greeted c.in-Ok.first _ _ _ _ _ _ c.in-Ok.ensures.opened c.in-Ok-new.ensures all) (λ v sv. c.replay_lines.ensures.said v sv)
+pub returns-clause-bad_line : goal.returns-clause-bad_line
+returns-clause-bad_line g c = λ line field. lines_bad _ _ _ c.answer_all.result line field c.answer_all.ensures.said
+
+pub returns-clause-long : goal.returns-clause-long
+returns-clause-long g c = lines_long _ _ _ c.answer_all.result c.answer_all.ensures.said
+
+pub returns-clause-usage : goal.returns-clause-usage
+returns-clause-usage g c = lines_never _ _ _ c.answer_all.result _ c.answer_all.ensures.said refl refl
+
+pub returns-clause-kept_bad : goal.returns-clause-kept_bad
+returns-clause-kept_bad g c = λ node height. lines_never _ _ _ c.answer_all.result _ c.answer_all.ensures.said refl refl
+
+pub returns-clause-kept_other : goal.returns-clause-kept_other
+returns-clause-kept_other g c = λ node kept ours. lines_never _ _ _ c.answer_all.result _ c.answer_all.ensures.said refl refl
+
+pub returns-clause-complete : goal.returns-clause-complete
+returns-clause-complete g c = lines_whole _ _ _ c.answer_all.result _ _ c.answer_all.ensures.said c.answer_all.ensures.read_fault c.answer_all.ensures.write_fault c.answer_all.ensures.keep_fault

@@ -1,6 +1,6 @@
 use Rattle.std.proofs.Common.{◌∙◌}
 use Rattle.std.proofs.lemmas.Result.{MatchResult-weaker}
-use Rattle.dx_app.proofs.Worlds.{node_count}
+use Rattle.dx_cluster.proofs.Worlds.{node_count}
 use Rattle.dx_app.proofs.Runs.{fault_ends, reply_ends, is_answered}
 use Rattle.dx_app.proofs.replay.answer_line.Goals as goal
 

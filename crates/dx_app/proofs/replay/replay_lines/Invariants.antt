@@ -1,5 +1,5 @@
 use Rattle.std.proofs.Common.{◌≤◌, ◌++◌}
-use Rattle.dx_app.specs.World.{World, Stands}
+use Rattle.dx_cluster.specs.World.{World, Stands}
 use Rattle.dx_app.specs.Transcript.{rest_told}
 use Rattle.dx_app.specs.Runs.{GoesOn}
 use Rattle.dx_app.proofs.replay.replay_lines.Given as goal

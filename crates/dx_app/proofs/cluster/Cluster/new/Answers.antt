@@ -1,6 +1,0 @@
-use Rattle.std.proofs.Common.{arith}
-use Rattle.dx_app.proofs.Worlds.{new_nodes}
-use Rattle.dx_app.proofs.cluster.Cluster.new.Goals as goal
-
-pub returns : goal.returns
-returns c = record { nodes = new_nodes c.nodes.nodes.items c.args.genesis.now c.nodes.i c.args.count c.nodes.invariant (omega arith); slots = c.new-2.ensures }

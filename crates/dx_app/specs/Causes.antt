@@ -1,0 +1,88 @@
+-- When each status comes: what is wrong in the lines of an input, and how a run ends for it.
+use Rattle.std.specs.Prelude.{◌≡◌, ℕ, ◌-◌, ◌<◌, ◌≤◌, ◌==◌, ◌⊎◌, nat_lt, if◌then◌else◌, IsTrue, List, [], ◌∷◌, ◌++◌, map, length, take, slice_get, All, count_by, Option, Some, None, IsNone, Result, Ok, Err}
+use Rattle.std.specs.Io.KnownBytes.{Appends}
+use Rattle.dx_types.specs.declared.Genesis.{Genesis}
+use Rattle.dx_types.specs.declared.status.Status.{Status}
+use Rattle.dx_types.specs.declared.status.Status.TheVariants.{Done, NoMemory}
+use Rattle.dx_scenario.specs.Genesis.{genesis_of}
+use Rattle.dx_app.specs.Lines.{newline, longest_line, cut}
+use Rattle.dx_app.specs.Transcript.{Told, line_limit, built_event_of}
+use Rattle.dx_app.specs.Runs.{is_fault, IsInput}
+
+-- the place of what is wrong in a reading, if anything is
+abbrev pub wrong_place : {A : Type 0} → Result A ℕ → Option ℕ
+wrong_place (Ok x) = None
+wrong_place (Err place) = Some place
+
+-- the place of what is wrong in a line with its reading; a line that is too long is wrong at 0
+abbrev pub fault_of : {A : Type 0} → List ℕ → Result A ℕ → Option ℕ
+fault_of line reading = if nat_lt longest_line (length line) then Some 0 else wrong_place reading
+
+-- the number of nodes of a genesis, 0 where it is none
+abbrev pub nodes_of : Result (ℕ × Genesis) ℕ → ℕ
+nodes_of (Ok first) = first.0
+nodes_of (Err place) = 0
+
+-- bytes without a newline are one line, which is wrong at 0
+abbrev pub cut_fault : List ℕ → List (Option ℕ)
+cut_fault [] = []
+cut_fault (b ∷ bytes) = Some 0 ∷ []
+
+-- for each line from the second on what is wrong in it, where it is to be an event of so many nodes
+abbrev pub event_faults : ℕ → List (List ℕ) → List ℕ → List (Option ℕ)
+event_faults nodes lines tail = map (λ line. fault_of line (built_event_of nodes line)) lines ++ cut_fault tail
+
+-- for each line what is wrong in it: there has to be a first line, which is a genesis, and the others are events
+abbrev pub line_faults : List (List ℕ) → List ℕ → List (Option ℕ)
+line_faults [] tail = Some 0 ∷ []
+line_faults (line ∷ lines) tail = fault_of line (genesis_of line) ∷ event_faults (nodes_of (genesis_of line)) lines tail
+
+-- for each line of an input what is wrong in it
+abbrev pub faults : List ℕ → List (Option ℕ)
+faults input = line_faults (cut input).lines (cut input).tail
+
+-- a good genesis line and then events, each with its newline, and no more lines than may be read
+pub record IsGoodScenario (input : List ℕ) : Type 0 where
+  pub good : All IsNone (faults input)
+  pub few : length (faults input) ≤ line_limit
+
+-- a line of this number is bad at this place, and all lines before it are good
+pub record IsFirstBad (input : List ℕ) (line field : ℕ) : Type 0 where
+  pub first : 1 ≤ line
+  pub last : line ≤ line_limit
+  pub bad : slice_get (faults input) (line - 1) ≡ Some (Some field)
+  pub before : All IsNone (take (line - 1) (faults input))
+
+-- a byte follows so many newlines
+pub record FollowsNewlines (newlines : ℕ) (input : List ℕ) : Type 0 where
+  pub front : List ℕ
+  pub rest : List ℕ
+  pub joined : front ++ rest ≡ input
+  pub count : count_by (λ b. b == newline) front ≡ newlines
+  pub more : 0 < length rest
+
+-- a byte follows the newline of the last line that may be read, and all lines before it are good
+pub record IsTooLong (input : List ℕ) : Type 0 where
+  pub follows : FollowsNewlines line_limit input
+  pub before : All IsNone (take line_limit (faults input))
+
+-- the words are taken: no word is yet
+abbrev pub IsTaken : {A : Type 0} → List A → Type 0
+IsTaken words = words ≡ []
+
+-- the source had left an input of a kind; where it does not tell what it had left, it may have been one
+abbrev pub Had : Option (List ℕ) → (List ℕ → Type 0) → Type 0
+Had left IsOfKind = (input : List ℕ) × IsInput left input × IsOfKind input
+
+-- whatever the source had left, it was an input of a kind
+abbrev pub HadSurely : Option (List ℕ) → (List ℕ → Type 0) → Type 0
+HadSurely left IsOfKind = (input : List ℕ) → IsInput left input → IsOfKind input
+
+-- a run ends so only for an input of a kind; and for each of them, unless the outside fails or memory is wanting
+pub record ComesExactly (left : Option (List ℕ)) (result status : Status) (IsOfKind : List ℕ → Type 0) : Type 0 where
+  pub only : result ≡ status → Had left IsOfKind
+  pub there : HadSurely left IsOfKind → (result ≡ status) ⊎ IsTrue (is_fault result)
+
+-- the run is done and all that is told of the input is written, or there was no memory
+abbrev pub IsWhole : (List ℕ → Told) → Option (List ℕ) → Option (List ℕ) → Option (List ℕ) → Status → Type 0
+IsWhole whole left written_before written status = ((status ≡ Done) × Had left (λ input. Appends written_before written (whole input).bytes)) ⊎ (status ≡ NoMemory)

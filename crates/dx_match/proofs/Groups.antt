@@ -1,0 +1,149 @@
+-- What the queue gets of a group of fills.
+use Rattle.std.proofs.Common.{is_ok, ◌≡◌, ◌<◌, Bool, true, false, cond, not, ◌&&◌, List, [], ◌∷◌, ◌++◌, length, fold, Option, Some, None, Result, Ok, Err, OnOk, refl, sym, ap, ◌∙◌, append_assoc, arith}
+use Rattle.std.proofs.lemmas.List.{append-nil}
+use Rattle.std.proofs.lemmas.List.Sums.{fold-append}
+use Rattle.std.specs.FinMap.{get, insert, empty, get-insert}
+use Rattle.dx_types.specs.Keys.{order_id_total}
+use Rattle.dx_types.specs.declared.OrderId.{OrderId}
+use Rattle.dx_types.specs.declared.Order.{Order}
+use Rattle.dx_types.specs.declared.Fill.{Fill}
+use Rattle.dx_types.specs.declared.Op.{Op}
+use Rattle.dx_types.specs.declared.Op.TheVariants.{Place, Match}
+use Rattle.dx_spec.specs.State.{State, is_short_term}
+use Rattle.dx_spec.specs.Orders.{is_same_id}
+use Rattle.dx_spec.specs.Operations.{Placed}
+use Rattle.dx_spec.specs.Blocks.{has_too_many_ops}
+use Rattle.dx_node_spec.specs.Queue.{with_placed, placed_by, holds_order, places}
+use Rattle.dx_node_spec.specs.Taking.{Taken, fills_of, makers_in, closed, closed_match, within_limits}
+use Rattle.dx_match.specs.declared.taken.Filled.{Filled}
+use Rattle.dx_match.specs.declared.taken.Taking.{Taking}
+use Rattle.dx_match.specs.Seen.{group_of, seen}
+use Rattle.dx_match.specs.Stages.{group_ops}
+
+-- an operation that places the id
+pub placed_here : (placed : Placed) (op : Op) (o : Order) (id : OrderId) → op ≡ Place o → is_same_id id o.id ≡ true → Some o ≡ get (with_placed placed op) id
+placed_here placed op o id e n =
+    sym (ap (λ (x : Op). get (with_placed placed x) id) e ∙ get-insert order_id_total placed o.id o id ∙ ap (λ b. cond b (Some o) (get placed id)) n)
+
+-- and one that places another
+pub placed_there : (placed : Placed) (op : Op) (o : Order) (id : OrderId) (found : Option Order) → op ≡ Place o → is_same_id id o.id ≡ false → found ≡ get placed id → found ≡ get (with_placed placed op) id
+placed_there placed op o id found e n h =
+    h ∙ sym (ap (λ (x : Op). get (with_placed placed x) id) e ∙ get-insert order_id_total placed o.id o id ∙ ap (λ b. cond b (Some o) (get placed id)) n)
+
+-- what is placed by operations behind others
+pub placed_behind : (queue ops : List Op) → fold with_placed (placed_by queue) ops ≡ placed_by (queue ++ ops)
+unfolding placed_by
+placed_behind queue ops = sym (fold-append with_placed empty queue ops)
+
+one_more : (queue ops : List Op) (o : Order) → placed_by (queue ++ (ops ++ Place o ∷ [])) ≡ insert (placed_by (queue ++ ops)) o.id o
+unfolding placed_by
+one_more queue ops o = ap (fold with_placed empty) (sym (append_assoc queue ops (Place o ∷ []))) ∙ fold-append with_placed empty (queue ++ ops) (Place o ∷ [])
+
+-- a Place leads on to those of the orders behind it
+pub place_added : (queue ops after : List Op) (o : Order) (rest : List Order) → is_short_term o.id ≡ true → holds_order (placed_by (queue ++ ops)) o ≡ false
+    → after ≡ ops ++ Place o ∷ []
+    → after ++ places (placed_by (queue ++ after)) rest ≡ ops ++ places (placed_by (queue ++ ops)) (o ∷ rest)
+unfolding places
+place_added queue ops after o rest short new e =
+    ap (λ l. l ++ places (placed_by (queue ++ l)) rest) e
+    ∙ ap (λ p. (ops ++ Place o ∷ []) ++ places p rest) (one_more queue ops o)
+    ∙ append_assoc ops (Place o ∷ []) (places (insert (placed_by (queue ++ ops)) o.id o) rest)
+    ∙ ap (λ b. ops ++ cond b (Place o ∷ places (insert (placed_by (queue ++ ops)) o.id o) rest) (places (placed_by (queue ++ ops)) rest))
+    (sym (ap (λ b. b && not (holds_order (placed_by (queue ++ ops)) o)) short ∙ ap not new))
+
+-- the same behind a push
+pub place_pushed : {E : Type 0} (queue ops same after : List Op) (o : Order) (short held : Bool) (r : Result (Unit {0}) E) → short ≡ is_short_term o.id → short ≡ true
+    → held ≡ holds_order (placed_by (queue ++ same)) o → held ≡ false → same ≡ ops → after ≡ cond (is_ok r) (ops ++ Place o ∷ []) ops
+    → (rest : List Order) → OnOk r (after ++ places (placed_by (queue ++ after)) rest ≡ ops ++ places (placed_by (queue ++ ops)) (o ∷ rest))
+place_pushed queue ops same after o short held (Ok u) e f g h i j = λ rest.
+    place_added queue ops after o rest (sym e ∙ f) (ap (λ l. holds_order (placed_by (queue ++ l)) o) (sym i) ∙ sym g ∙ h) j
+place_pushed queue ops same after o short held (Err x) e f g h i j = λ rest. tt
+
+-- a stateful order is passed over
+pub place_not_short : (queue ops : List Op) (o : Order) (short : Bool) → short ≡ is_short_term o.id → short ≡ false
+    → (rest : List Order) → ops ++ places (placed_by (queue ++ ops)) rest ≡ ops ++ places (placed_by (queue ++ ops)) (o ∷ rest)
+unfolding places
+place_not_short queue ops o short e f = λ rest.
+    ap (λ b. ops ++ cond (b && not (holds_order (placed_by (queue ++ ops)) o)) (Place o ∷ places (insert (placed_by (queue ++ ops)) o.id o) rest) (places (placed_by (queue ++ ops)) rest)) (sym f ∙ e)
+
+not_and : (a : Bool) → (a && false) ≡ false
+not_and true = refl
+not_and false = refl
+
+-- and so is one that is placed as it is
+pub place_held : (queue ops same : List Op) (o : Order) (held : Bool) → held ≡ holds_order (placed_by (queue ++ same)) o → held ≡ true → same ≡ ops
+    → (rest : List Order) → ops ++ places (placed_by (queue ++ ops)) rest ≡ ops ++ places (placed_by (queue ++ ops)) (o ∷ rest)
+unfolding places
+place_held queue ops same o held e f g = λ rest.
+    let placed : holds_order (placed_by (queue ++ ops)) o ≡ true = ap (λ l. holds_order (placed_by (queue ++ l)) o) (sym g) ∙ sym e ∙ f in
+    ap (λ b. ops ++ cond b (Place o ∷ places (insert (placed_by (queue ++ ops)) o.id o) rest) (places (placed_by (queue ++ ops)) rest))
+    (sym (ap (λ b. is_short_term o.id && not b) placed ∙ not_and (is_short_term o.id)))
+
+some_closed : (queue both : List Op) (o : Order) (group : List Filled) → 0 < length group
+    → both ≡ places (placed_by queue) (makers_in (group_of group) ++ o ∷ []) → both ++ Match o.id (fills_of (group_of group)) ∷ [] ≡ group_ops queue o (group_of group)
+unfolding group_ops
+some_closed queue both o [] h e = absurd (omega arith)
+some_closed queue both o (x ∷ xs) h e = ap (λ l. l ++ Match o.id (fills_of (group_of (x ∷ xs))) ∷ []) e
+
+no_places : (placed : Placed) → places placed [] ≡ []
+unfolding places
+no_places placed = refl
+
+-- the operations of a group with fills
+pub group_closed : (queue start placed both ops : List Op) (o : Order) (group first second : List Filled) (fills : List Fill) → 0 < length group
+    → start ≡ [] → first ≡ group → second ≡ group
+    → placed ++ places (placed_by (queue ++ placed)) (o ∷ []) ≡ start ++ places (placed_by (queue ++ start)) (makers_in (group_of first) ++ o ∷ [])
+    → both ++ places (placed_by (queue ++ both)) [] ≡ placed ++ places (placed_by (queue ++ placed)) (o ∷ [])
+    → fills ≡ fills_of (group_of second) → ops ≡ both ++ Match o.id fills ∷ []
+    → ops ≡ group_ops queue o (group_of group)
+group_closed queue start placed both ops o group first second fills h none one two e f i j =
+    let all_placed : both ≡ places (placed_by queue) (makers_in (group_of group) ++ o ∷ []) =
+    sym (append-nil both) ∙ ap (λ l. both ++ l) (sym (no_places (placed_by (queue ++ both)))) ∙ f ∙ e
+    ∙ ap (λ l. l ++ places (placed_by (queue ++ l)) (makers_in (group_of first) ++ o ∷ [])) none
+    ∙ ap (λ l. places (placed_by l) (makers_in (group_of first) ++ o ∷ [])) (append-nil queue)
+    ∙ ap (λ g. places (placed_by queue) (makers_in (group_of g) ++ o ∷ [])) one in
+    j ∙ ap (λ l. both ++ Match o.id l ∷ []) (i ∙ ap (λ g. fills_of (group_of g)) two) ∙ some_closed queue both o group h all_placed
+
+-- and of one without
+pub group_empty : (queue ops : List Op) (o : Order) (group : List Filled) → group ≡ [] → ops ≡ [] → ops ≡ group_ops queue o (group_of group)
+unfolding group_ops
+group_empty queue ops o group e h = h ∙ sym (ap (λ g. group_ops queue o (group_of g)) e)
+
+closed_seen : (queue : List Op) (o : Order) (s : State) (p : Taking) (group : List Filled) → p.group ≡ group
+    → closed_match queue o (seen s p)
+    ≡ record { state = s; group = []; ops = group_ops queue o (group_of group); gone = p.gone; filled = p.filled; fills = p.fills; offsets = 0; stop = p.stop }
+unfolding closed group_ops
+closed_seen queue o s p [] e = ap (λ (g : List Filled). closed_match queue o (record { state = s; group = group_of g; ops = []; gone = p.gone; filled = p.filled; fills = p.fills; offsets = 0; stop = p.stop })) e
+closed_seen queue o s p (x ∷ xs) e =
+    ap (λ (g : List Filled). closed_match queue o (record { state = s; group = group_of g; ops = []; gone = p.gone; filled = p.filled; fills = p.fills; offsets = 0; stop = p.stop })) e
+    ∙ ap (λ l. record { state = s; group = []; ops = places (placed_by l) (makers_in (group_of (x ∷ xs)) ++ o ∷ []) ++ Match o.id (fills_of (group_of (x ∷ xs))) ∷ []; gone = p.gone; filled = p.filled; fills = p.fills; offsets = 0; stop = p.stop }) (append-nil queue)
+
+limits_kept : (queue : List Op) (t : Taken) → has_too_many_ops (queue ++ t.ops) ≡ false → within_limits queue t ≡ Some t
+unfolding within_limits
+limits_kept queue t e = ap (λ b. cond b None (Some t)) e
+
+limits_passed : (queue : List Op) (t : Taken) → has_too_many_ops (queue ++ t.ops) ≡ true → within_limits queue t ≡ None
+unfolding within_limits
+limits_passed queue t e = ap (λ b. cond b None (Some t)) e
+
+ended_as : (queue ops : List Op) (o : Order) (s : State) (p : Taking) → ops ≡ group_ops queue o (group_of p.group)
+    → closed_match queue o (seen s p) ≡ record { state = s; group = []; ops = ops; gone = p.gone; filled = p.filled; fills = p.fills; offsets = 0; stop = p.stop }
+ended_as queue ops o s p e =
+    closed_seen queue o s p p.group refl ∙ ap (λ l. record { state = s; group = []; ops = l; gone = p.gone; filled = p.filled; fills = p.fills; offsets = 0; stop = p.stop }) (sym e)
+
+tested : (queue same ops more : List Op) (many b : Bool) → many ≡ has_too_many_ops (same ++ more) → many ≡ b → same ≡ queue → more ≡ ops → has_too_many_ops (queue ++ ops) ≡ b
+tested queue same ops more many b e f g h = ap has_too_many_ops (ap (λ l. l ++ ops) (sym g) ∙ ap (λ l. same ++ l) (sym h)) ∙ sym e ∙ f
+
+-- a taking that ends within the limits
+pub ends_within : (queue same ops more : List Op) (o : Order) (s : State) (p : Taking) (many : Bool) → ops ≡ group_ops queue o (group_of p.group)
+    → many ≡ has_too_many_ops (same ++ more) → many ≡ false → same ≡ queue → more ≡ ops
+    → within_limits queue (closed_match queue o (seen s p)) ≡ Some (record { state = s; group = []; ops = ops; gone = p.gone; filled = p.filled; fills = p.fills; offsets = 0; stop = p.stop })
+ends_within queue same ops more o s p many e f g h i =
+    ap (within_limits queue) (ended_as queue ops o s p e) ∙ limits_kept queue _ (tested queue same ops more many false f g h i)
+
+-- and one that would not
+pub ends_beyond : (queue same ops more : List Op) (o : Order) (s : State) (p : Taking) (many : Bool) → ops ≡ group_ops queue o (group_of p.group)
+    → many ≡ has_too_many_ops (same ++ more) → many ≡ true → same ≡ queue → more ≡ ops
+    → within_limits queue (closed_match queue o (seen s p)) ≡ None
+ends_beyond queue same ops more o s p many e f g h i =
+    ap (within_limits queue) (ended_as queue ops o s p e) ∙ limits_passed queue _ (tested queue same ops more many true f g h i)

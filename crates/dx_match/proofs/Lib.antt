@@ -1,0 +1,9 @@
+pub mod Each
+pub mod Sorted
+pub mod Sides
+pub mod Turns
+pub mod Amounts
+pub mod Standing
+pub mod Notes
+pub mod Groups
+pub mod Trying

@@ -1,0 +1,74 @@
+-- What is noted of a fill that was tried.
+use Rattle.std.proofs.Common.{◌≡◌, ◌≢◌, ℕ, ◌+◌, true, false, cond, min, List, [], ◌∷◌, ◌++◌, Result, Ok, Err, IsTrue, refl, sym, ap, subst, ◌∙◌, is_ok}
+use Rattle.std.proofs.lemmas.Bool.{ne_eqb}
+use Rattle.std.proofs.lemmas.List.{map-append}
+use Rattle.dx_types.specs.declared.Order.{Order}
+use Rattle.dx_types.specs.declared.Op.{Op}
+use Rattle.dx_spec.specs.Codes.{maker_risk}
+use Rattle.dx_spec.specs.State.{State, is_short_term, is_same_account}
+use Rattle.dx_spec.specs.Fills.{fill_step}
+use Rattle.dx_node_spec.specs.Book.{left}
+use Rattle.dx_node_spec.specs.Taking.{Taken, Filled as FilledMaker, leaves, with_fill, refused_maker}
+use Rattle.dx_ledger.specs.declared.faults.OpFault.{OpFault}
+use Rattle.dx_ledger.specs.declared.faults.OpFault.TheVariants.{Code}
+use Rattle.dx_trade.specs.Refusals.{IsFaultOf}
+use Rattle.dx_match.specs.declared.taken.Filled.{Filled}
+use Rattle.dx_match.specs.declared.taken.Taking.{Taking}
+use Rattle.dx_match.specs.Seen.{group_of, seen}
+use Rattle.dx_match.specs.Stages.{tried, take_maker}
+
+-- a push that was done
+pub pushed : {X E : Type 0} (r : Result (Unit {0}) E) (u : Unit {0}) (xs ys zs : List X) → r ≡ Ok u → ys ≡ cond (is_ok r) xs zs → ys ≡ xs
+pushed r u xs ys zs e f = f ∙ ap (λ z. cond (is_ok z) xs zs) e
+
+-- a fill that leaves nothing of its maker
+pub noted_gone : (maker : Order) (amount : ℕ) (s t : State) (before : Taking) (group : List Filled) (last : Taken)
+    → group ≡ before.group ++ record { maker = maker; amount = amount } ∷ [] → left s maker ≡ 0
+    → last ≡ leaves maker.id (seen s (record before { group = group; filled = before.filled + amount; fills = before.fills + 1 }))
+    → last ≡ with_fill maker amount s (seen t before)
+unfolding with_fill
+noted_gone maker amount s t before group last h z e =
+    let noted : List FilledMaker → Taken = λ g. record { state = s; group = g; ops = []; gone = before.gone; filled = before.filled + amount; fills = before.fills + 1; offsets = 0; stop = before.stop } in
+    let more : group_of group ≡ group_of before.group ++ record { maker = maker; amount = amount } ∷ [] = ap group_of h ∙ map-append _ before.group _ in
+    e ∙ ap (λ g. leaves maker.id (noted g)) more ∙ rw z refl
+
+-- a refused fill whose maker does not bear it
+tried_risk : (queue : List Op) (o maker : Order) (amount : ℕ) (t : Taken) → is_short_term maker.id ≡ true → tried queue o maker amount t (Err maker_risk) ≡ leaves maker.id t
+unfolding tried refused_maker
+tried_risk queue o maker amount t e = rw e refl
+
+tried_other : (queue : List Op) (o maker : Order) (amount code : ℕ) (t : Taken) → code ≢ maker_risk → tried queue o maker amount t (Err code) ≡ record t { stop = code }
+unfolding tried
+tried_other queue o maker amount code t e = rw (ne_eqb code maker_risk e) refl
+
+pub noted_risk : (queue : List Op) (o maker : Order) (amount fill code : ℕ) (t last : Taken) (f : OpFault) (step : Result State ℕ) → IsTrue (is_short_term maker.id)
+    → f ≡ Code fill code → code ≡ maker_risk → IsFaultOf step f → last ≡ leaves maker.id t → last ≡ tried queue o maker amount t step
+noted_risk queue o maker amount fill code t last f step short is same h e =
+    let i : IsFaultOf step (Code fill code) = subst (IsFaultOf step) is h in
+    e ∙ sym (ap (tried queue o maker amount t) (i.1 ∙ ap Err same) ∙ tried_risk queue o maker amount t short)
+
+pub noted_stop : (queue : List Op) (o maker : Order) (amount fill code : ℕ) (t : Taken) (f : OpFault) (step : Result State ℕ)
+    → f ≡ Code fill code → code ≢ maker_risk → IsFaultOf step f → record t { stop = code } ≡ tried queue o maker amount t step
+noted_stop queue o maker amount fill code t f step is other h =
+    let i : IsFaultOf step (Code fill code) = subst (IsFaultOf step) is h in
+    sym (ap (tried queue o maker amount t) i.1 ∙ tried_other queue o maker amount code t other)
+
+-- a good fill
+pub tried_good : (queue : List Op) (o maker : Order) (amount : ℕ) (s : State) (t last : Taken) (step : Result State ℕ) → step ≡ Ok s
+    → last ≡ with_fill maker amount s t → last ≡ tried queue o maker amount t step
+unfolding tried
+tried_good queue o maker amount s t last step e h = h ∙ sym (ap (tried queue o maker amount t) e)
+
+-- a maker of the order's own account
+pub takes_own : (queue : List Op) (o maker : Order) (t last : Taken) → is_same_account maker.id.who o.id.who ≡ true → last ≡ leaves maker.id t → last ≡ take_maker queue o t maker
+unfolding take_maker
+takes_own queue o maker t last e h = h ∙ rw e refl
+
+-- any other
+pub takes_filled : (queue : List Op) (o maker : Order) (amount a b : ℕ) (t last : Taken) → is_same_account maker.id.who o.id.who ≡ false
+    → amount ≡ min a b → a ≡ left t.state o → b ≡ left t.state maker
+    → last ≡ tried queue o maker amount t (fill_step t.state o maker amount) → last ≡ take_maker queue o t maker
+unfolding take_maker
+takes_filled queue o maker amount a b t last e f i j h =
+    let same : amount ≡ min (left t.state o) (left t.state maker) = f ∙ ap (λ n. min n b) i ∙ ap (min (left t.state o)) j in
+    h ∙ ap (λ n. tried queue o maker n t (fill_step t.state o maker n)) same ∙ rw e refl

@@ -1,0 +1,115 @@
+//! All makers of an order.
+
+ghost use Rattle.std.specs.Prelude.{◌≡◌, ℕ, None, Some, List as Items, IfOk, OnOk, OnErr, fold};
+ghost use Rattle.dx_types.specs.declared.Op.{Op as AnyOp};
+ghost use Rattle.dx_spec.specs.Balance.{Balanced};
+ghost use Rattle.dx_node_spec.specs.Book.{makers_of};
+ghost use Rattle.dx_node_spec.specs.Taking.{nothing_taken, take_one, take_order};
+ghost use Rattle.dx_sound.specs.Within.{SoundWithin, StepKeeps};
+ghost use Rattle.dx_ledger.specs.Marks.{KeepsMarks};
+ghost use Rattle.dx_accounts.specs.Steady.{IsSteady};
+ghost use Rattle.dx_fill.specs.Conditions.{IsTradable};
+ghost use Rattle.dx_match.specs.Seen.{seen, ended};
+ghost use Rattle.dx_match.specs.Conditions.{IsBookFor, KeepsSteady};
+
+use crate::closing::close;
+use crate::comparing::crosses;
+use crate::faults::TakeFault;
+use crate::stepping::{is_over, take};
+use crate::taken::{Taken, Taking, start};
+use dx_book::Book;
+use dx_ledger::Branch;
+use dx_queue::Queue;
+use dx_types::{NoMemory, Order};
+use std::alloc::Global;
+
+/// Takes the makers of an order, the best price first and then the earliest, until the order takes no more or
+/// none crosses it.
+fn take_all<L: Branch>(alloc: Global, l: &mut L, b: &Book, o: &Order) -> Result<Taking, NoMemory>
+    requires steady { IsSteady (L.content l.old) }
+    requires order { IsTradable (L.content l.old) o.now }
+    requires book { IsBookFor (L.content l.old) b.now.orders }
+    ensures ok { (queue : Items AnyOp) → IfOk result (λ t. seen (L.content l.new) t
+        ≡ fold (take_one queue o.now) (nothing_taken (L.content l.old)) (makers_of b.now.orders o.now)) }
+    ensures kept { OnOk result (KeepsSteady (L.content l.old) (L.content l.new)) }
+    ensures marks { KeepsMarks L.stands L.marked l.old l.new }
+    ensures beside { L.beside l.new ≡ L.beside l.old }
+{
+    let mut taking = start(alloc);
+    let mut next = b.first(o.id.market, !o.buy);
+    for _number in 0..b.len() {
+        let Some(key) = next else {
+            return Ok(taking);
+        };
+        let maker = b.order(key);
+        if is_over(l, o, taking.stop) {
+            return Ok(taking);
+        }
+        if !crosses(o, &maker) {
+            return Ok(taking);
+        }
+        take(l, o, &maker, &mut taking)?;
+        next = b.next(key);
+    }
+    Ok(taking)
+}
+
+/// Takes, and leaves what it has written where nothing comes of it.
+fn try_match<L: Branch>(
+    alloc: Global,
+    l: &mut L,
+    b: &Book,
+    q: &Queue,
+    o: &Order,
+) -> Result<Taken, TakeFault>
+    requires steady { IsSteady (L.content l.old) }
+    requires order { IsTradable (L.content l.old) o.now }
+    requires book { IsBookFor (L.content l.old) b.now.orders }
+    ensures ok { IfOk result (λ t. take_order (L.content l.old) b.now.orders q.now o.now ≡ Some (ended (L.content l.new) t)) }
+    ensures full { result ≡ Err TakeFault.Full → take_order (L.content l.old) b.now.orders q.now o.now ≡ None }
+    ensures kept { OnOk result (KeepsSteady (L.content l.old) (L.content l.new)) }
+    ensures marks { KeepsMarks L.stands L.marked l.old l.new }
+    ensures beside { L.beside l.new ≡ L.beside l.old }
+{
+    let taking = take_all(alloc, l, b, o)?;
+    close(alloc, q, o, taking)
+}
+
+/// Takes for an order what a book offers ("Taking" and "What the queue gets" in docs/RULES.md).
+///
+/// The order takes the orders of the other side that it crosses, the best price first and then the earliest,
+/// each at its own price, by the lesser of what is left of both. A maker of the order's own account leaves the
+/// book, and so does one with nothing left and one whose account does not bear the fill; any other refusal
+/// stops the order with its code. The order of the same id in the book stands aside. `o` need not be in the
+/// book, and the book and the queue stay as they are: the caller takes `gone` out and pushes `ops`.
+///
+/// `Full` where the queue would have more than 1,024 operations, or more than 4,096 fills and offsets
+/// together; `NoMemory` where there is none. The content is then as before.
+pub fn match_order<L: Branch>(
+    alloc: Global,
+    l: &mut L,
+    b: &Book,
+    q: &Queue,
+    o: &Order,
+) -> Result<Taken, TakeFault>
+    requires steady { IsSteady (L.content l.old) }
+    requires order { IsTradable (L.content l.old) o.now }
+    requires book { IsBookFor (L.content l.old) b.now.orders }
+    ensures ok { IfOk result (λ t. take_order (L.content l.old) b.now.orders q.now o.now ≡ Some (ended (L.content l.new) t)) }
+    ensures full { result ≡ Err TakeFault.Full → take_order (L.content l.old) b.now.orders q.now o.now ≡ None }
+    ensures err { OnErr result (L.content l.new ≡ L.content l.old) }
+    ensures steady { OnOk result (IsSteady (L.content l.new)) }
+    ensures balanced { OnOk result (Balanced (L.content l.new)) }
+    ensures within { (most : ℕ) → SoundWithin most (L.content l.old) → OnOk result (StepKeeps most (L.content l.old) (L.content l.new)) }
+    ensures marks { KeepsMarks L.stands L.marked l.old l.new }
+    ensures beside { L.beside l.new ≡ L.beside l.old }
+{
+    let mark = l.mark()?;
+    match try_match(alloc, l, b, q, o) {
+        Ok(taken) => Ok(taken),
+        Err(fault) => {
+            l.rollback(mark);
+            Err(fault)
+        }
+    }
+}

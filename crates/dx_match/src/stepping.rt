@@ -1,0 +1,172 @@
+//! One maker.
+
+ghost use Rattle.std.specs.Prelude.{◌≡◌, ℕ, ◌+◌, ◌^◌, ◌<◌, ◌≤◌, false, [], ◌∷◌, not, ◌||◌, ◌==◌, List as Items, Result as Answer, IsTrue, OnOk, fold};
+ghost use Rattle.dx_types.specs.declared.Op.{Op as AnyOp};
+ghost use Rattle.dx_types.specs.declared.Order.{Order as AnyOrder};
+ghost use Rattle.dx_spec.specs.State.{State as AnyState, filled_of as filled_in, is_same_account as same_account, is_short_term};
+ghost use Rattle.dx_spec.specs.Fills.{fill_step};
+ghost use Rattle.dx_node_spec.specs.Book.{left as left_in, without};
+ghost use Rattle.dx_node_spec.specs.Taking.{leaves, with_fill, take_one};
+ghost use Rattle.dx_ledger.specs.Marks.{KeepsMarks};
+ghost use Rattle.dx_trade.specs.Refusals.{IsFaultOf};
+ghost use Rattle.dx_match.specs.Seen.{seen};
+ghost use Rattle.dx_fill.specs.Conditions.{CanFillBoth};
+ghost use Rattle.dx_match.specs.Conditions.{KeepsSteady};
+ghost use Rattle.dx_match.specs.Stages.{is_over as over, tried, take_maker as taken_from};
+
+use crate::comparing::{is_same_account, is_same_id};
+use crate::taken::{Filled, Taking};
+use dx_fill::fill;
+use dx_ledger::{Branch, Ledger, OpFault};
+use dx_trade::{Refusal, filled_of};
+use dx_types::{NoMemory, Order};
+
+/// What is left of an order: base quantums.
+pub(crate) fn left<L: Ledger>(l: &L, o: &Order) -> u64
+    ensures { result ≡ left_in (L.content l.now) o.now }
+{
+    o.size.saturating_sub(filled_of(l, &o.id))
+}
+
+/// Whether an order takes no more: it is stopped, or has nothing left.
+pub(crate) fn is_over<L: Ledger>(l: &L, o: &Order, stop: u32) -> bool
+    ensures { result ≡ over (L.content l.now) o.now stop }
+{
+    stop != 0 || left(l, o) == 0
+}
+
+/// A maker leaves the book.
+fn leave(taking: &mut Taking, maker: &Order) -> Result<(), NoMemory>
+    ensures ok { (s : AnyState) → OnOk result (seen s taking.new ≡ leaves maker.now.id (seen s taking.old)) }
+    ensures filled { taking.new.filled ≡ taking.old.filled }
+    ensures fills { taking.new.fills ≡ taking.old.fills }
+{
+    taking.gone.push(maker.id)
+}
+
+/// Notes a fill that was made.
+#[tactic(auto, unfolding(dx_node_spec::specs::Taking::with_fill))]
+fn note_fill<L: Ledger>(
+    l: &L,
+    taking: &mut Taking,
+    maker: &Order,
+    amount: u64,
+) -> Result<(), NoMemory>
+    requires fills { taking.old.fills + 1 < 2 ^ 32 }
+    requires filled { taking.old.filled + amount < 2 ^ 64 }
+    ensures ok { (s : AnyState) → OnOk result (seen (L.content l.now) taking.new ≡ with_fill maker.now amount (L.content l.now) (seen s taking.old)) }
+    ensures filled { OnOk result (taking.new.filled ≡ taking.old.filled + amount) }
+    ensures fills { OnOk result (taking.new.fills ≡ taking.old.fills + 1) }
+{
+    taking.group.push(Filled {
+        maker: *maker,
+        amount,
+    })?;
+    taking.filled += amount;
+    taking.fills += 1;
+    if left(l, maker) == 0 {
+        return leave(taking, maker);
+    }
+    Ok(())
+}
+
+/// What a refused fill leads to: a short-term maker whose account does not bear it leaves the book, and any
+/// other code stops the order.
+fn note_refusal(taking: &mut Taking, maker: &Order, fault: OpFault) -> Result<(), NoMemory>
+    requires { IsTrue (is_short_term maker.now.id) }
+    ensures ok { (queue : Items AnyOp) (s : AnyState) (o : AnyOrder) (amount : ℕ) (step : Answer AnyState ℕ) → IsFaultOf step fault
+        → OnOk result (seen s taking.new ≡ tried queue o maker.now amount (seen s taking.old) step) }
+    ensures filled { OnOk result (taking.new.filled ≡ taking.old.filled) }
+    ensures fills { OnOk result (taking.new.fills ≡ taking.old.fills) }
+{
+    match fault {
+        OpFault::NoMemory => Err(NoMemory),
+        OpFault::Code { code, .. } => {
+            if code == Refusal::MakerRisk.number() {
+                return leave(taking, maker);
+            }
+            taking.stop = code;
+            Ok(())
+        }
+    }
+}
+
+/// Fills the order against a maker by an amount of base quantums, and notes what that leads to.
+fn try_maker<L: Branch>(
+    l: &mut L,
+    o: &Order,
+    maker: &Order,
+    amount: u64,
+    taking: &mut Taking,
+) -> Result<(), NoMemory>
+    requires fillable { CanFillBoth (L.content l.old) o.now maker.now }
+    requires short_term { IsTrue (is_short_term maker.now.id) }
+    requires within { taking.old.filled ≤ filled_in (L.content l.old) o.now.id }
+    requires room { taking.old.filled + amount < 2 ^ 64 }
+    requires fills { taking.old.fills + 1 < 2 ^ 32 }
+    ensures ok { (queue : Items AnyOp) → OnOk result (seen (L.content l.new) taking.new
+        ≡ tried queue o.now maker.now amount (seen (L.content l.old) taking.old) (fill_step (L.content l.old) o.now maker.now amount)) }
+    ensures kept { OnOk result (KeepsSteady (L.content l.old) (L.content l.new)) }
+    ensures within { OnOk result (taking.new.filled ≤ filled_in (L.content l.new) o.now.id) }
+    ensures fills { OnOk result (taking.new.fills ≤ taking.old.fills + 1) }
+    ensures marks { KeepsMarks L.stands L.marked l.old l.new }
+    ensures beside { L.beside l.new ≡ L.beside l.old }
+{
+    match fill(l, o, maker, amount) {
+        Ok(()) => note_fill(l, taking, maker, amount),
+        Err(fault) => note_refusal(taking, maker, fault),
+    }
+}
+
+/// Takes a maker: one of the order's own account leaves the book, and any other is filled by the lesser of
+/// what is left of both.
+fn take_maker<L: Branch>(
+    l: &mut L,
+    o: &Order,
+    maker: &Order,
+    taking: &mut Taking,
+) -> Result<(), NoMemory>
+    requires fillable { CanFillBoth (L.content l.old) o.now maker.now }
+    requires short_term { IsTrue (is_short_term maker.now.id) }
+    requires within { taking.old.filled ≤ filled_in (L.content l.old) o.now.id }
+    requires fills { taking.old.fills + 1 < 2 ^ 32 }
+    ensures ok { (queue : Items AnyOp) → OnOk result (seen (L.content l.new) taking.new
+        ≡ taken_from queue o.now (seen (L.content l.old) taking.old) maker.now) }
+    ensures kept { OnOk result (KeepsSteady (L.content l.old) (L.content l.new)) }
+    ensures within { OnOk result (taking.new.filled ≤ filled_in (L.content l.new) o.now.id) }
+    ensures fills { OnOk result (taking.new.fills ≤ taking.old.fills + 1) }
+    ensures marks { KeepsMarks L.stands L.marked l.old l.new }
+    ensures beside { L.beside l.new ≡ L.beside l.old }
+{
+    if is_same_account(maker.id.who, o.id.who) {
+        return leave(taking, maker);
+    }
+    let amount = left(l, o).min(left(l, maker));
+    try_maker(l, o, maker, amount, taking)
+}
+
+/// Takes a maker that the order crosses, unless it has the order's own id.
+pub(crate) fn take<L: Branch>(
+    l: &mut L,
+    o: &Order,
+    maker: &Order,
+    taking: &mut Taking,
+) -> Result<(), NoMemory>
+    requires fillable { CanFillBoth (L.content l.old) o.now maker.now }
+    requires short_term { IsTrue (is_short_term maker.now.id) }
+    requires goes_on { over (L.content l.old) o.now taking.old.stop ≡ false }
+    requires within { taking.old.filled ≤ filled_in (L.content l.old) o.now.id }
+    requires fills { taking.old.fills + 1 < 2 ^ 32 }
+    ensures ok { (queue : Items AnyOp) → OnOk result (seen (L.content l.new) taking.new
+        ≡ fold (take_one queue o.now) (seen (L.content l.old) taking.old) (without (maker.now ∷ []) o.now.id)) }
+    ensures kept { OnOk result (KeepsSteady (L.content l.old) (L.content l.new)) }
+    ensures within { OnOk result (taking.new.filled ≤ filled_in (L.content l.new) o.now.id) }
+    ensures fills { OnOk result (taking.new.fills ≤ taking.old.fills + 1) }
+    ensures marks { KeepsMarks L.stands L.marked l.old l.new }
+    ensures beside { L.beside l.new ≡ L.beside l.old }
+{
+    if is_same_id(maker.id, o.id) {
+        return Ok(());
+    }
+    take_maker(l, o, maker, taking)
+}

@@ -1,0 +1,61 @@
+ghost use Rattle.std.specs.Prelude.{◌≡◌};
+ghost use Rattle.dx_spec.specs.State.{State};
+ghost use Rattle.dx_node_spec.specs.Taking.{nothing_taken};
+ghost use Rattle.dx_match.specs.Seen.{seen};
+
+use dx_types::{List, Op, Order, OrderId};
+use std::alloc::Global;
+
+/// What was taken of a book.
+#[derive(Debug, PartialEq, Eq, Drop)]
+pub struct Taken {
+    /// The operations that the queue gets, in order.
+    pub ops: List<Op>,
+    /// The makers that leave the book, in order.
+    pub gone: List<OrderId>,
+    /// How much was filled: base quantums.
+    pub filled: u64,
+    /// How many fills there were.
+    pub fills: u32,
+    /// How many offsets there were.
+    pub offsets: u32,
+    /// The code that stopped it ("Codes of a block" in docs/RULES.md), or 0.
+    pub stop: u32,
+}
+
+/// A maker, and the amount that was filled of it.
+#[derive(Clone, Copy, Debug)]
+pub(crate) struct Filled {
+    /// The maker.
+    pub(crate) maker: Order,
+    /// Base quantums.
+    pub(crate) amount: u64,
+}
+
+/// How far a taking is.
+#[derive(Debug, Drop)]
+pub(crate) struct Taking {
+    /// The fills that stand in no operation yet, in order.
+    pub(crate) group: List<Filled>,
+    /// The makers that leave the book, in order.
+    pub(crate) gone: List<OrderId>,
+    /// How much was filled: base quantums.
+    pub(crate) filled: u64,
+    /// How many fills there were.
+    pub(crate) fills: u32,
+    /// The code that stopped it, or 0.
+    pub(crate) stop: u32,
+}
+
+/// Before the first maker. It takes no memory.
+pub(crate) fn start(alloc: Global) -> Taking
+    ensures { (s : State) → seen s result ≡ nothing_taken s }
+{
+    Taking {
+        group: List::new(alloc),
+        gone: List::new(alloc),
+        filled: 0,
+        fills: 0,
+        stop: 0,
+    }
+}

@@ -1,0 +1,11 @@
+-- The operations that are carried out yet.
+use Rattle.dx_types.specs.declared.Op.{Op}
+use Rattle.dx_types.specs.declared.Op.TheVariants.{Place, Match, Liquidate, Delever, Remove}
+
+-- orders are placed and matched; liquidations, deleveragings and removals are not carried out yet
+abbrev pub IsBuilt : Op → Type 0
+IsBuilt (Place o) = Unit {0}
+IsBuilt (Match taker fills) = Unit {0}
+IsBuilt (Liquidate who market fills) = ⊥
+IsBuilt (Delever who market offsets) = ⊥
+IsBuilt (Remove id) = ⊥

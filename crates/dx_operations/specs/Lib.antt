@@ -1,0 +1,5 @@
+pub mod Faults
+pub mod Built
+pub mod Refusals
+pub mod Midway
+pub mod Stages

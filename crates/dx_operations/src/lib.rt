@@ -1,0 +1,16 @@
+//! The operations of a block, on any ledger.
+//!
+//! It stands on `dx_orders` and `dx_hash` (the tests of an order), `dx_fill` (one fill) and `dx_spec`, whose
+//! `Operations` defines what operations do. [`apply_operations`] is equal to that definition, or names the
+//! first bad operation with its fill and code. The content stays balanced, and sound by the law of `dx_sound`.
+//! Each order that a block has placed stays one that may be traded until its operations end.
+#![tactic(auto)]
+
+mod faults;
+mod matching;
+mod operations;
+mod placing;
+mod refusals;
+
+pub use faults::BlockFault;
+pub use operations::apply_operations;

@@ -1,7 +1,0 @@
-use Rattle.std.proofs.Common.{◌≡◌, ◌++◌, take}
-use Rattle.std.specs.List.{flat_map}
-use Rattle.dx_print.specs.Answers.{position_text}
-use Rattle.dx_print.proofs.answer.push_positions.Given as goal
-
-abbrev pub invariant-loop-position : goal.invariant-loop-position
-invariant-loop-position l = l.out.items ≡ l.fn.out.items ++ flat_map position_text (take l.position-index l.positions)

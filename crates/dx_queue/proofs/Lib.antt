@@ -1,0 +1,3 @@
+mod Indexes
+mod Names
+pub mod Room
