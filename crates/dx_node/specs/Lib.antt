@@ -1,0 +1,7 @@
+pub mod Fed
+pub mod Held
+pub mod Stage
+pub mod Standing
+pub mod Stages
+pub mod Faults
+pub mod Laws

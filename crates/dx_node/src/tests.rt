@@ -1,0 +1,170 @@
+//! The life of a node, where memory is ample.
+
+ghost use Rattle.std.specs.Prelude.{◌≤◌, IfOk};
+ghost use Rattle.dx_spec.specs.Genesis.{IsGenesis};
+ghost use Rattle.dx_rules.specs.Built.{IsBuilt};
+
+use crate::{CommitFault, FeedFault, Node, PlaceFault, Placed};
+use dx_types::{
+    Block, Genesis, Kind, List, MarketParams, Msg, NoMemory, Order, OrderId, Params, SubaccountId,
+};
+use std::alloc::Global;
+use std::process::Abort;
+use std::test::Fail;
+
+/// Base quantums of one step.
+const STEP: u64 = 1_000_000;
+
+/// The price at which both sides meet: subticks.
+const SUBTICKS: u64 = 5_000_000_000;
+
+fn account_id(owner: u32) -> SubaccountId {
+    SubaccountId { owner, number: 0 }
+}
+
+// A genesis of one market.
+fn genesis(alloc: Global) -> Result<Genesis, NoMemory>
+    ensures { IfOk result IsGenesis }
+{
+    let mut markets = List::new(alloc);
+    markets.push(MarketParams {
+        atomic: -10,
+        conversion: -9,
+        step: 1_000_000,
+        tick: 100_000,
+        price_exponent: -5,
+        price: 5_000_000_000,
+        initial: 50_000,
+        maintenance: 600_000,
+        impact: 500_000_000,
+        rate_cap: 120_000,
+    })?;
+    Ok(Genesis {
+        time: 100,
+        insurance: 7,
+        params: Params {
+            min_votes: 1,
+            taker_ppm: 500,
+            maker_ppm: 200,
+            liq_cap_ppm: 10_000,
+            spread_ppm: 1_000_000,
+            bankruptcy_ppm: 1_000_000,
+            markets,
+        },
+    })
+}
+
+// A first block in which accounts 1 and 2 pay in.
+fn deposits(alloc: Global) -> Result<Block, NoMemory>
+    ensures { IfOk result IsBuilt }
+{
+    let mut msgs = List::new(alloc);
+    msgs.push(Msg::Deposit {
+        who: account_id(1),
+        amount: 1_000_000_000,
+    })?;
+    msgs.push(Msg::Deposit {
+        who: account_id(2),
+        amount: 1_000_000_000,
+    })?;
+    Ok(Block {
+        height: 1,
+        time: 160,
+        ops: List::new(alloc),
+        msgs,
+        votes: List::new(alloc),
+        prices: List::new(alloc),
+    })
+}
+
+fn order(owner: u32, buy: bool, steps: u64, kind: Kind) -> Order
+    requires { steps ≤ 10 }
+{
+    Order {
+        id: OrderId {
+            who: account_id(owner),
+            client: 1,
+            flags: 0,
+            market: 0,
+        },
+        buy,
+        size: steps * STEP,
+        subticks: SUBTICKS,
+        until: 5,
+        kind,
+    }
+}
+
+// The results of the node's first block, in which two accounts pay in.
+fn fund(alloc: Global, node: &mut Node) -> Result<List<u32>, Fail> {
+    let block = deposits(alloc)?;
+    Ok(node.commit(&block)?)
+}
+
+// What a placing answers by its number, 0 where the order is not refused.
+fn refusal_of(placed: Result<Placed, PlaceFault>) -> u32 {
+    match placed {
+        Ok(_) => 0,
+        Err(fault) => fault.number(),
+    }
+}
+
+// A sale rests, a second one of its id and one that only rests are refused, and a purchase is filled.
+fn trade(rt: &impl Abort, node: &mut Node) -> Result<(), Fail> {
+    let maker = order(1, false, 2, Kind::Gtc);
+    assert!(rt; node.place(&maker)? == Placed::Rested { filled: 0 });
+    assert!(rt; node.best(0) == Some([0, 0, SUBTICKS, 2 * STEP]));
+    assert!(rt; refusal_of(node.place(&maker)) == 4);
+    assert!(rt; refusal_of(node.place(&order(2, true, 1, Kind::PostOnly))) == 7);
+    assert!(rt; node.place(&order(2, true, 1, Kind::Gtc))? == Placed::Filled);
+    assert!(rt; node.filled(&maker.id) == (0, STEP));
+    assert!(rt; node.best(0) == Some([0, 0, SUBTICKS, STEP]));
+    assert!(rt; node.best(1).is_none());
+    Ok(())
+}
+
+// A price is fed, and one that is none is refused.
+fn feed(rt: &impl Abort, node: &mut Node) -> Result<(), Fail> {
+    assert!(rt; node.feed(1, 5_000_000_000) == Err(FeedFault::NoMarket));
+    assert!(rt; node.feed(0, 0) == Err(FeedFault::BadPrice));
+    node.feed(0, 5_100_000_000)?;
+    Ok(())
+}
+
+// What a node proposes is good and is committed: the numbers of its operations and prices, and of results.
+fn propose(node: &mut Node) -> Result<(usize, usize, usize), Fail> {
+    let block = node.propose(161)?;
+    node.check(&block)?;
+    let results = node.commit(&block)?;
+    Ok((block.ops.len(), block.prices.len(), results.len()))
+}
+
+// The code of the block that was committed before.
+fn code_of_repeat(alloc: Global, node: &mut Node) -> Result<u32, Fail> {
+    let block = deposits(alloc)?;
+    match node.commit(&block) {
+        Err(CommitFault::Bad(bad)) => Ok(bad.code),
+        _ => Ok(0),
+    }
+}
+
+// A node's first block, a trade, a fed price and its own block.
+fn live(rt: &impl Abort, alloc: Global, node: &mut Node) -> Result<(), Fail> {
+    let results = fund(alloc, node)?;
+    assert!(rt; results.as_slice() == [0, 0].as_slice());
+    trade(rt, node)?;
+    feed(rt, node)?;
+    assert!(rt; node.speculative_account(account_id(1)) != node.committed_account(account_id(1)));
+    assert!(rt; propose(node)? == (3, 1, 0));
+    assert!(rt; node.speculative_account(account_id(1)) == node.committed_account(account_id(1)));
+    assert!(rt; code_of_repeat(alloc, node)? == 26);
+    assert!(rt; node.height() == 2 && node.number() == 3 && node.audit().paid_in == 2_000_000_007);
+    Ok(())
+}
+
+#[test]
+fn a_node_lives(rt: HostRuntime) -> Result<(), Fail> {
+    let alloc = rt.alloc();
+    let mut node = Node::new(alloc, &genesis(alloc)?, 3)?;
+    live(&rt, alloc, &mut node)
+}
