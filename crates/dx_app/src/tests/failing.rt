@@ -1,6 +1,6 @@
 //! Sources and sinks of which one call fails.
 
-use super::{DEPOSITS, REPLIES};
+use super::worked::{TRANSFERS, TRANSFERS_REPLIES};
 use crate::run;
 use dx_io::{MemSink, MemSource, SureKeeper, SureSink, SureSource};
 use dx_types::Status;
@@ -10,9 +10,9 @@ use std::test::Fail;
 /// The balances that are asked for behind the deposits.
 const BALANCES: usize = 400;
 
-/// The deposits, and then so many balances that the source is read four times.
+/// The deposits and transfers, and then so many balances that the source is read four times.
 fn long_input(alloc: Global) -> Result<Vec<u8>, Fail> {
-    let mut input = DEPOSITS.as_bytes().to_vec(alloc)?;
+    let mut input = TRANSFERS.as_bytes().to_vec(alloc)?;
     for _ in 0..BALANCES {
         input.extend_from_slice(b"[\"balance\",0,[1,0]]\n")?;
     }
@@ -59,19 +59,22 @@ fn a_failed_write_ends_the_run(rt: HostRuntime) -> Result<(), Fail> {
     let alloc = rt.alloc();
     let mut ends = Vec::new(alloc);
     for call in 1..20 {
-        let mut source = MemSource::new(DEPOSITS.as_bytes().to_vec(alloc)?, Vec::new(alloc));
+        let mut source = MemSource::new(TRANSFERS.as_bytes().to_vec(alloc)?, Vec::new(alloc));
         let mut sink = MemSink::new(alloc, vec![in alloc; call]?);
         let mut keeper = SureKeeper::new(alloc);
         let status = run(alloc, &[], &mut source, &mut sink, &mut keeper);
-        assert!(rt; REPLIES.as_bytes().starts_with(sink.bytes()), "at {call}");
+        assert!(rt;
+            TRANSFERS_REPLIES.as_bytes().starts_with(sink.bytes()),
+            "at {call}"
+        );
         ends.push(status)?;
         if status == Status::Done {
-            assert_eq!(rt; sink.bytes(), REPLIES.as_bytes());
+            assert_eq!(rt; sink.bytes(), TRANSFERS_REPLIES.as_bytes());
             break;
         }
         assert_eq!(rt; status, Status::WriteFault, "at {call}");
     }
-    assert_eq!(rt; ends.len(), 8);
+    assert_eq!(rt; ends.len(), 7);
     assert_eq!(rt; ends.last().copied(), Some(Status::Done));
     Ok(())
 }

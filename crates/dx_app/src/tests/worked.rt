@@ -13,7 +13,7 @@ const EMPTY_REPLIES: &str = "1 genesis 0
 2 audit 0 0 0 0 0 0 0 0
 ";
 
-const TRANSFERS: &str =
+pub(super) const TRANSFERS: &str =
     r#"["genesis",2,0,0,1,[500,200,5000,1500000,1000000],[[-10,-9,1000000,100000,-5,5000000000,50000,600000,500000000,1000000],[-9,-9,1000,100000,-6,3000000000,50000,600000,500000000,1000000]]]
 ["block",0,1,1,[],[[1,[1,0],1000],[1,[2,0],500],[3,[1,0],[2,0],300],[3,[1,0],[2,0],701]],[],[]]
 ["commit",0,0]
@@ -22,7 +22,7 @@ const TRANSFERS: &str =
 ["audit",0]
 "#;
 
-const TRANSFERS_REPLIES: &str = "1 genesis 0 0
+pub(super) const TRANSFERS_REPLIES: &str = "1 genesis 0 0
 2 block ok
 3 commit good 1 0 0 0 5
 4 balance 1 700 0
