@@ -1,6 +1,6 @@
 -- The open interest of a market covers each position in it.
 use Prim.Native.Nat.{zero}
-use Rattle.std.proofs.Common.{◌≡◌, ℕ, suc, ◌^◌, ◌<◌, ◌≤◌, true, false, cond, ◌==◌, ℤ, pos, negsuc, ◌+ℤ◌, ◌-ℤ◌, neg_ℤ, ◌≤ℤ◌, unsigned_abs, List, [], ◌∷◌, map, Option, Some, None, unwrap_or, refl, sym, ap, subst, ◌∙◌, arith, find, slice_get, All, IfSome}
+use Rattle.std.proofs.Common.{◌≡◌, ℕ, suc, ◌^◌, ◌<◌, ◌≤◌, true, false, cond, ◌==◌, ℤ, pos, negsuc, ◌+ℤ◌, neg_ℤ, ◌≤ℤ◌, unsigned_abs, List, [], ◌∷◌, map, Option, Some, None, unwrap_or, refl, sym, ap, subst, ◌∙◌, arith, find, slice_get, All, IfSome}
 use Rattle.std.proofs.lemmas.Int.{ints}
 use Rattle.std.proofs.lemmas.Bool.Decides.{nat_tests}
 use Rattle.std.proofs.lemmas.List.Elements.{recursion_from_All, All-from_recursion}
@@ -23,26 +23,14 @@ use Rattle.dx_spec.proofs.Accounts.{over_insert}
 use Rattle.dx_margin.specs.Ranges.{IsMarket, Covers, IsCovered}
 use Rattle.dx_laws.proofs.Positions.{is_in}
 use Rattle.dx_laws.proofs.Rising.{Above, Climb, Climb-Rise}
-use Rattle.dx_laws.proofs.Trading.{long_below}
+use Rattle.dx_laws.proofs.Trading.{long_below, part_below}
 use Rattle.dx_accounts.specs.Steady.{IsSteady}
 use Rattle.dx_accounts.proofs.Dusts.{at_number}
-
--- sums of numbers of which each is the second and the third
-sum_parts : {X : Type 0} (f g h : X → ℤ) (xs : List X) → ((x : X) → f x ≡ g x +ℤ h x) → int_sum_by f xs ≡ int_sum_by g xs +ℤ int_sum_by h xs
-sum_parts f g h [] e = refl
-sum_parts f g h (x ∷ xs) e = let i = sum_parts f g h xs e in let k = e x in omega (arith, ints, i, k)
-
-in_sides : (z : ℤ) → pos (long_part z) ≡ z +ℤ pos (long_part (neg_ℤ z))
-in_sides (pos zero) = refl
-in_sides (pos (suc n)) = omega (arith, ints)
-in_sides (negsuc n) = omega (arith, ints)
+use Rattle.dx_laws.proofs.Auditing.{sides}
 
 sum_not_negative : {X : Type 0} (f : X → ℤ) (xs : List X) → ((x : X) → pos 0 ≤ℤ f x) → pos 0 ≤ℤ int_sum_by f xs
 sum_not_negative f [] h = omega (arith, ints)
 sum_not_negative f (x ∷ xs) h = let i = sum_not_negative f xs h in let k = h x in omega (arith, ints, i, k)
-
-part_below : (sum part whole : ℤ) → sum ≡ whole +ℤ pos 0 -ℤ part → pos 0 ≤ℤ sum → part ≤ℤ whole
-part_below s p w e h = omega (arith, ints)
 
 short_not_negative : (z : ℤ) → pos 0 ≤ℤ pos (long_part (neg_ℤ z))
 short_not_negative z = omega (arith, ints)
@@ -53,11 +41,6 @@ short_below s who k =
     part_below _ (pos (long_part (neg_ℤ (size_in (account_of s who) k)))) (short_side s k)
     (over_insert (λ a. pos (long_part (neg_ℤ (size_in a k)))) s.accounts who no_account refl)
     (sum_not_negative (λ (e : SubaccountId × Account). pos (long_part (neg_ℤ (size_in e.1 k)))) (entries (insert s.accounts who no_account)) (λ e. short_not_negative (size_in e.1 k)))
-
-sides : (s : State) (n : ℕ) → long_side s n ≡ over_accounts s (λ a. size_in a n) +ℤ short_side s n
-sides s n =
-    sum_parts (λ (e : SubaccountId × Account). pos (long_part (size_in e.1 n))) (λ (e : SubaccountId × Account). size_in e.1 n)
-    (λ (e : SubaccountId × Account). pos (long_part (neg_ℤ (size_in e.1 n)))) (entries s.accounts) (λ e. in_sides (size_in e.1 n))
 
 both_below : (z long short all : ℤ) (oi : ℕ) → long ≡ all +ℤ short → all ≡ pos 0 → pos oi ≡ long → pos (long_part z) ≤ℤ long → pos (long_part (neg_ℤ z)) ≤ℤ short → unsigned_abs z ≤ oi
 both_below (pos zero) l s a o e f g h i = omega arith
@@ -89,7 +72,7 @@ each_found : (ps : List Position) → Climb ps → Found ps ps
 each_found [] c = tt
 each_found (p ∷ ps) c = (ap (λ b. cond b (Some p) (find (is_in p.market) ps)) (itself p.market), found_after p ps ps c.0 (each_found ps c.1))
 
-if_known : (P : MarketInfo → Type 0) (o : Option MarketInfo) → ((m : MarketInfo) → o ≡ Some m → P m) → IfSome o P
+pub if_known : (P : MarketInfo → Type 0) (o : Option MarketInfo) → ((m : MarketInfo) → o ≡ Some m → P m) → IfSome o P
 if_known P None h = tt
 if_known P (Some m) h = h m refl
 

@@ -24,7 +24,7 @@ fn or_unbuilt(event: Event) -> Result<Event, LineFault>
 
 /// The event of a line, in a scenario of so many nodes.
 ///
-/// `Bad` is exactly where the line is no event, or asks for something that is not built ("Events" in
+/// `Bad` is exactly where the line is no event, or asks for something that is not built ("What is taken today" in
 /// docs/FORMAT.md). The event's node is one of the nodes.
 pub fn read_built_event(alloc: Global, line: &[u8], nodes: u32) -> Result<Event, LineFault>
     requires { 0 < nodes }

@@ -13,6 +13,7 @@ use std::test::Fail;
 mod bad_lines;
 mod failing;
 mod limits;
+mod node;
 mod unbuilt;
 mod worked;
 

@@ -7,14 +7,15 @@ use Rattle.std.proofs.lemmas.List.Folds.{find_at, find-append}
 use Rattle.dx_types.specs.declared.OrderId.{OrderId}
 use Rattle.dx_types.specs.declared.Order.{Order}
 use Rattle.dx_spec.specs.Orders.{is_same_id}
-use Rattle.dx_node_spec.specs.Book.{best, resting, without}
+use Rattle.dx_node_spec.specs.Book.{best, resting, without, HasOnePerId}
 use Rattle.dx_book.specs.Picks.{before, pick}
 use Rattle.dx_book.specs.Ways.{has_id, next_of, is_behind_earlier, is_behind_later}
-use Rattle.dx_book.specs.Held.{Held, HasOnePerId, IsKept, key_to, named, order_at}
+use Rattle.dx_book.specs.Held.{Held, IsKept, key_to, named, order_at}
 use Rattle.dx_book.specs.declared.key.OrderKey.{OrderKey}
-use Rattle.dx_book.proofs.Ids.{one_per_id-append, one_per_id-filter, resting-without}
+use Rattle.dx_book.proofs.Ids.{one_per_id-append, resting-without}
 use Rattle.dx_book.proofs.Sides.{best_rests, next_rests, pick_is_next}
 use Rattle.dx_book.proofs.Places.{get_at, some_within}
+use Rattle.dx_node_spec.proofs.Ids.{one_per_id-filter}
 
 -- an order is the one of its id
 abbrev Rests : List Order → Order → Type 0

@@ -1,6 +1,6 @@
 mod Each
 mod Sorting
-mod Sides
+pub mod Sides
 mod Ids
 mod Places
 mod Keys

@@ -7,35 +7,36 @@ use Rattle.std.proofs.lemmas.List.Sorted.{IsStrictWeakOrder-flip, IsStrictWeakOr
 use Rattle.dx_types.specs.declared.Order.{Order}
 use Rattle.dx_spec.specs.Lists.{put_by, sorted_by}
 use Rattle.dx_spec.specs.Orders.{is_same_side}
-use Rattle.dx_node_spec.specs.Book.{is_better, is_on_side, side_of, best, resting}
+use Rattle.dx_node_spec.specs.Book.{is_better, is_on_side, side_of, best, resting, HasOnePerId}
 use Rattle.dx_book.specs.Picks.{before, pick}
 use Rattle.dx_book.specs.Ways.{behind, has_id, next_of, is_behind_earlier, is_behind_later}
-use Rattle.dx_book.specs.Held.{HasOnePerId}
-use Rattle.dx_book.proofs.Each.{all_weaker, all_filter, all_pass, all_sorted, all_behind, if_first}
+use Rattle.dx_book.proofs.Each.{all_behind, if_first}
 use Rattle.dx_book.proofs.Sorting.{pick_is_first, pick_is_behind}
-use Rattle.dx_book.proofs.Ids.{own_id, all_resting, around, no_other}
+use Rattle.dx_book.proofs.Ids.{own_id, around, no_other}
+use Rattle.dx_spec.proofs.Each.{all_weaker, all_filter, all_pass, all_sorted}
+use Rattle.dx_node_spec.proofs.Ids.{all_resting}
 
 before_order : (buy : Bool) → IsStrictWeakOrder (before buy)
 before_order true = IsStrictWeakOrder-flip _ (IsStrictWeakOrder-by_number (λ o. o.subticks))
 before_order false = IsStrictWeakOrder-by_number (λ o. o.subticks)
 
-same_side : (a b c : Bool) → a && is_same_side b c ≡ true → c ≡ b
+pub same_side : (a b c : Bool) → a && is_same_side b c ≡ true → c ≡ b
 same_side true true c e = e
 same_side true false true e = cc
 same_side true false false e = refl
 same_side false b c e = cc
 
-put_same : (buy : Bool) (x : Order) (ys : List Order) → AllByRecursion (λ o. o.buy ≡ buy) ys → put_by is_better x ys ≡ put_by (before buy) x ys
+pub put_same : (buy : Bool) (x : Order) (ys : List Order) → AllByRecursion (λ o. o.buy ≡ buy) ys → put_by is_better x ys ≡ put_by (before buy) x ys
 put_same buy x [] h = refl
 put_same buy x (y ∷ ys) h =
     ap (λ b. cond (before b y x) (y ∷ put_by is_better x ys) (x ∷ y ∷ ys)) h.0
     ∙ ap (λ l. cond (before buy y x) (y ∷ l) (x ∷ y ∷ ys)) (put_same buy x ys h.1)
 
-sorted_same : (buy : Bool) (xs : List Order) → AllByRecursion (λ o. o.buy ≡ buy) xs → sorted_by is_better xs ≡ sorted_by (before buy) xs
+pub sorted_same : (buy : Bool) (xs : List Order) → AllByRecursion (λ o. o.buy ≡ buy) xs → sorted_by is_better xs ≡ sorted_by (before buy) xs
 sorted_same buy [] h = refl
 sorted_same buy (x ∷ xs) h = ap (put_by is_better x) (sorted_same buy xs h.1) ∙ put_same buy x (sorted_by (before buy) xs) (all_sorted _ (before buy) xs h.1)
 
-side_same : (xs : List Order) (market : ℕ) (buy : Bool) → side_of xs market buy ≡ sorted_by (before buy) (filter (is_on_side market buy) xs)
+pub side_same : (xs : List Order) (market : ℕ) (buy : Bool) → side_of xs market buy ≡ sorted_by (before buy) (filter (is_on_side market buy) xs)
 side_same xs market buy =
     sorted_same buy (filter (is_on_side market buy) xs)
     (all_weaker (λ o. is_on_side market buy o ≡ true) (λ o. o.buy ≡ buy) (λ o e. same_side (o.id.market == market) buy o.buy e) (filter (is_on_side market buy) xs) (all_pass (is_on_side market buy) xs))

@@ -1,7 +1,7 @@
 -- What contracts see of a book, and what its keys name.
-use Rattle.std.specs.Prelude.{◌≡◌, ℕ, ◌+◌, ◌≤◌, List, [], ◌∷◌, length, Option, Some, None}
+use Rattle.std.specs.Prelude.{ℕ, ◌+◌, ◌≤◌, List, length, Option, Some, None}
 use Rattle.dx_types.specs.declared.Order.{Order}
-use Rattle.dx_node_spec.specs.Book.{resting}
+use Rattle.dx_node_spec.specs.Book.{resting, HasOnePerId}
 use Rattle.dx_book.specs.declared.key.OrderKey.{OrderKey}
 
 -- the orders by arrival, and how many may be added before room has to be made
@@ -12,11 +12,6 @@ pub record Held : Type 0 where
 -- so many orders at most
 abbrev pub most_held : ℕ
 most_held = 65_537
-
--- no two orders have one id
-abbrev pub HasOnePerId : List Order → Type 0
-HasOnePerId [] = Unit {0}
-HasOnePerId (o ∷ os) = (resting os o.id ≡ None) × HasOnePerId os
 
 -- what is kept of the fields: one order per id, room for the spare ones, and no more than may be held
 pub record IsKept (orders : List Order) (spare capacity : ℕ) : Type 0 where

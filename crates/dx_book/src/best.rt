@@ -1,10 +1,9 @@
 //! The best order of a side, and the one behind another, found without sorting.
 
 ghost use Rattle.std.specs.Prelude.{◌≡◌, ◌<◌, length, slice_get, IfSome};
-ghost use Rattle.dx_node_spec.specs.Book.{best as best_of_side};
+ghost use Rattle.dx_node_spec.specs.Book.{best as best_of_side, HasOnePerId};
 ghost use Rattle.dx_book.specs.Picks.{before, front as front_of, pick as pick_of};
 ghost use Rattle.dx_book.specs.Ways.{next_of};
-ghost use Rattle.dx_book.specs.Held.{HasOnePerId};
 
 use crate::filters::{BehindEarlier, BehindLater, OnSide, OrderTest, comes_before};
 use dx_types::Order;

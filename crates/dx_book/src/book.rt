@@ -1,23 +1,25 @@
 ghost use Rattle.std.specs.Prelude.{◌≡◌, ◌↔◌, ◌+◌, ◌≤◌, [], ◌∷◌, ◌++◌, None, IsSome, IfSome, IfOk, OnOk, length};
 ghost use Rattle.std.specs.Prelude.{false};
 ghost use Rattle.dx_spec.specs.Orders.{is_same_id as is_one_id};
-ghost use Rattle.dx_node_spec.specs.Book.{resting, without, best};
+ghost use Rattle.dx_node_spec.specs.Book.{resting, without, best, HasOnePerId};
 ghost use Rattle.dx_book.specs.Ways.{next_of, of_account as earliest_of, after_of_account as earliest_after, expired as first_expired};
-ghost use Rattle.dx_book.specs.Held.{HasOnePerId, most_held, named, order_at};
+ghost use Rattle.dx_book.specs.Held.{most_held, named, order_at};
 ghost use Rattle.dx_book.specs.declared.key.OrderKey.{OrderKey as Key};
 
 use crate::best::{best_behind, best_on};
 use crate::fault::BookFault;
-use crate::filters::{BelowHeight, OfAccount, OfId, PastTime, is_same_id};
+use crate::filters::{BelowHeight, OfAccount, OfId, PastTime};
 use crate::key::{OrderKey, key_of};
 use crate::search::{behind, first_of, id_of, place_of};
+use dx_orders::is_same_id;
+use dx_types::limits::MOST_ORDERS;
 use dx_types::{List, NoMemory, Order, OrderId, SubaccountId};
 use std::alloc::{AllocError, Global};
 use std::marker::Model;
 
-/// How many orders a book may hold: one more than the 65,536 that a node keeps, so that a node may
-/// make room before makers leave.
-const MOST_HELD: usize = 65_537;
+/// How many orders a book may hold: one more than may rest, so that a node may make room before makers
+/// leave.
+const MOST_HELD: usize = MOST_ORDERS + 1;
 
 /// The orders of a node in order of arrival, at most one per id. Contracts see the list and the
 /// number of orders that may be added before room has to be made.

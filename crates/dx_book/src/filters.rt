@@ -1,37 +1,12 @@
 //! The tests by which a book is read.
 
 ghost use Rattle.std.specs.Prelude.{◌≡◌};
-ghost use Rattle.dx_spec.specs.State.{is_same_account as is_one_account};
-ghost use Rattle.dx_spec.specs.Orders.{is_same_id as is_one_id, is_same_side as is_one_side};
 ghost use Rattle.dx_node_spec.specs.Book.{is_on_side};
 ghost use Rattle.dx_book.specs.Picks.{before};
 ghost use Rattle.dx_book.specs.Ways.{has_id, is_short_term_of, is_below_height, is_past_time, is_behind_earlier, is_behind_later};
 
+use dx_orders::{is_same_account, is_same_id, is_same_side};
 use dx_types::{Order, OrderId, SubaccountId};
-
-/// The flags of a short-term order.
-const SHORT_TERM: u32 = 0;
-
-/// Whether both are one id.
-pub(crate) fn is_same_id(a: OrderId, b: OrderId) -> bool
-    ensures { result ≡ is_one_id a b }
-{
-    a == b
-}
-
-/// Whether both are one account.
-fn is_same_account(a: SubaccountId, b: SubaccountId) -> bool
-    ensures { result ≡ is_one_account a b }
-{
-    a == b
-}
-
-/// Whether both buy or both sell.
-fn is_same_side(a: bool, b: bool) -> bool
-    ensures { result ≡ is_one_side a b }
-{
-    if a { b } else { !b }
-}
 
 /// Whether the first has the better price on that side: a greater bid, or a lesser ask.
 pub(crate) fn comes_before(buy: bool, o: &Order, p: &Order) -> bool
@@ -81,7 +56,7 @@ impl OrderTest for OfAccount {
     ghost passes = { λ t. is_short_term_of t.who };
 
     fn passes(&self, order: &Order) -> bool {
-        order.id.flags == SHORT_TERM && is_same_account(order.id.who, self.who)
+        order.id.is_short_term() && is_same_account(order.id.who, self.who)
     }
 }
 
@@ -95,7 +70,7 @@ impl OrderTest for BelowHeight {
     ghost passes = { λ t. is_below_height t.height };
 
     fn passes(&self, order: &Order) -> bool {
-        order.id.flags == SHORT_TERM && order.until < self.height
+        order.id.is_short_term() && order.until < self.height
     }
 }
 
@@ -109,7 +84,7 @@ impl OrderTest for PastTime {
     ghost passes = { λ t. is_past_time t.time };
 
     fn passes(&self, order: &Order) -> bool {
-        order.id.flags != SHORT_TERM && order.until <= self.time
+        !order.id.is_short_term() && order.until <= self.time
     }
 }
 

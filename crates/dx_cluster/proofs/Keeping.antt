@@ -1,116 +1,144 @@
--- What stays so whatever happens: the blocks of each node are good, and its genesis is in its ranges.
-use Rattle.std.proofs.Common.{◌≡◌, ℕ, zero, suc, List, [], ◌∷◌, replicate, refl, subst, sym, Option, Some, None, Result, Ok, Err}
-use Rattle.std.specs.Prelude.{slice_get, slice_set, IsOk, All}
+-- What stays so of the nodes whatever happens.
+use Rattle.std.proofs.Common.{◌≡◌, ◌<◌, ℕ, zero, suc, List, [], ◌∷◌, map, arith, refl, subst, sym, ap, ◌∙◌, Option, Some, None, Result, Ok, Err}
+use Rattle.std.specs.Prelude.{slice_get, slice_set, All}
 use Rattle.std.specs.FinMap.{get}
-use Rattle.std.proofs.lemmas.List.Elements.{All-head, All-tail, All-cons, All-replicate}
+use Rattle.std.proofs.lemmas.List.Elements.{All-head, All-tail, All-cons}
+use Rattle.std.proofs.lemmas.List.FromFn.{length-map-range_with_len, get_or-map-range_with_len}
 use Rattle.std.proofs.lemmas.Option.{slice_get_within, get_or_from_slice_get}
 use Rattle.dx_types.specs.declared.Block.{Block}
-use Rattle.dx_types.specs.declared.Bad.{Bad}
+use Rattle.dx_types.specs.declared.Order.{Order}
 use Rattle.dx_types.specs.declared.Genesis.{Genesis}
+use Rattle.dx_spec.specs.Lists.{changed_at}
 use Rattle.dx_spec.specs.State.{State}
 use Rattle.dx_spec.specs.Genesis.{IsGenesis}
-use Rattle.dx_spec.specs.Blocks.{block_step, fold_blocks}
 use Rattle.dx_laws.proofs.Auditing.{balance_shown}
 use Rattle.dx_sound.proofs.Both.{blocks_are_sound}
+use Rattle.dx_node_spec.specs.Node.{Node, new_node, committed}
+use Rattle.dx_node_spec.specs.Placing.{Refusal}
+use Rattle.dx_node.specs.Stage.{propose}
 use Rattle.dx_scenario.specs.declared.event.Event.{Event}
 use Rattle.dx_scenario.specs.declared.event.Event.TheVariants as events
 use Rattle.dx_print.specs.declared.answer.Answer.{Answer}
-use Rattle.dx_cluster.specs.Nodes.{PlainNode, new_node, committed, StandsFor}
-use Rattle.dx_cluster.specs.World.{World, world_of, node_acts, check_slot, commit_slot, tell_balance, tell_audit, step}
-use Rattle.dx_cluster.specs.Laws.{FoldsStayGood, after, IsInBalance, StatesBalance}
-use Rattle.dx_cluster.proofs.Worlds.{stands_new, is_committed, acts_good, acts_bad}
+use Rattle.dx_cluster.specs.Acts.{place_order, feed_price, check_slot, commit_slot, tell_balance, tell_speculative, tell_filled, tell_best, tell_audit}
+use Rattle.dx_cluster.specs.World.{World, world_of, node_acts, put_proposal, node_proposes, step}
+use Rattle.dx_cluster.specs.Laws.{IsFold, FoldsStayGood, after_block, OnlyCommitsCount, after, IsInBalance, StatesBalance, ProposalsAreGood}
+use Rattle.dx_cluster.proofs.Living.{FoldsTo, placing_folds, feeding_folds, committing_folds, new_folds, Lives, placing_lives, feeding_lives, committing_lives, new_lives, proposes_good}
 
-module _ (P : PlainNode → Type 0) where
-  all_set : (ps : List PlainNode) (n : ℕ) (p : PlainNode) → All P ps → P p → All P (slice_set ps n p)
+-- a proposal changes no node
+put_nodes : (w : World) (slot : ℕ) (r : Result Block Refusal) → (put_proposal w slot r).0.nodes ≡ w.nodes
+put_nodes w slot (Ok b) = refl
+put_nodes w slot (Err cause) = refl
+
+pub propose_nodes : (w : World) (o : Option Node) (slot time : ℕ) → (node_proposes w o slot time).0.nodes ≡ w.nodes
+propose_nodes w None slot time = refl
+propose_nodes w (Some p) slot time = put_nodes w slot (propose p time)
+
+module _ (P : Node → Type 0) where
+  all_set : (ps : List Node) (n : ℕ) (p : Node) → All P ps → P p → All P (slice_set ps n p)
   all_set [] n p h g = h
   all_set (q ∷ ps) zero p h g = All-cons P p ps g (All-tail P q ps h)
   all_set (q ∷ ps) (suc n) p h g = All-cons P q (slice_set ps n p) (All-head P q ps h) (all_set ps n p (All-tail P q ps h) g)
 
-  all_at : (ps : List PlainNode) (n : ℕ) (p : PlainNode) → slice_get ps n ≡ Some p → All P ps → P p
+  all_at : (ps : List Node) (n : ℕ) (p : Node) → slice_get ps n ≡ Some p → All P ps → P p
   all_at ps n p e h = subst P (get_or_from_slice_get ps n p p e) (h n p (slice_get_within ps n p e))
 
-  acted : (w : World) (node : ℕ) (act : PlainNode → PlainNode × Answer) (o : Option PlainNode) → slice_get w.nodes node ≡ o → All P w.nodes → ((p : PlainNode) → P p → P (act p).0) → All P (node_acts w o node act).0.nodes
-  acted w node act None e h a = h
-  acted w node act (Some p) e h a = all_set w.nodes node (act p).0 h (a p (all_at w.nodes node p e h))
+  acted_at : (w : World) (node : ℕ) (act : Node → Node × Answer) (o : Option Node) → slice_get w.nodes node ≡ o → All P w.nodes → ((p : Node) → P p → P (act p).0) → All P (node_acts w o node act).0.nodes
+  acted_at w node act None e h a = h
+  acted_at w node act (Some p) e h a = all_set w.nodes node (act p).0 h (a p (all_at w.nodes node p e h))
 
-  -- what commits keep of a node, every event keeps
-  stepped : ((o : Option Block) (p : PlainNode) → P p → P (commit_slot o p).0) → (w : World) (event : Event) → All P w.nodes → All P (step w event).0.nodes
-  stepped k w (events.Check node slot) h = acted w node (check_slot (get w.slots slot)) (slice_get w.nodes node) refl h (λ p g. g)
-  stepped k w (events.Commit node slot) h = acted w node (commit_slot (get w.slots slot)) (slice_get w.nodes node) refl h (k (get w.slots slot))
-  stepped k w (events.Balance node who) h = acted w node (tell_balance who) (slice_get w.nodes node) refl h (λ p g. g)
-  stepped k w (events.Audit node) h = acted w node tell_audit (slice_get w.nodes node) refl h (λ p g. g)
-  stepped k w event h = h
+  -- what holds of a new node of each number holds of all nodes at first
+  first_nodes : (nodes : ℕ) (g : Genesis) → ((number : ℕ) → P (new_node number g)) → All P (world_of nodes g).nodes
+  first_nodes nodes g h =
+      let made : ℕ → Node = λ number. new_node number g in
+      λ n d lt. subst P (sym (get_or-map-range_with_len made 0 nodes n n d (subst (λ k. n < k) (length-map-range_with_len made 0 nodes) lt) (omega arith))) (h n)
+
+  -- what orders, prices and commits keep of a node, every event keeps
+  stepped : ((o : Order) (p : Node) → P p → P (place_order o p).0) → ((market price : ℕ) (p : Node) → P p → P (feed_price market price p).0) → ((o : Option Block) (p : Node) → P p → P (commit_slot o p).0)
+      → (w : World) (event : Event) → All P w.nodes → All P (step w event).0.nodes
+  stepped placed fed committed w (events.Place node order) h = acted_at w node (place_order order) (slice_get w.nodes node) refl h (placed order)
+  stepped placed fed committed w (events.Feed node market price) h = acted_at w node (feed_price market price) (slice_get w.nodes node) refl h (fed market price)
+  stepped placed fed committed w (events.Propose node slot time) h = subst (All P) (sym (propose_nodes w (slice_get w.nodes node) slot time)) h
+  stepped placed fed committed w (events.Check node slot) h = acted_at w node (check_slot (get w.slots slot)) (slice_get w.nodes node) refl h (λ p g. g)
+  stepped placed fed committed w (events.Commit node slot) h = acted_at w node (commit_slot (get w.slots slot)) (slice_get w.nodes node) refl h (committed (get w.slots slot))
+  stepped placed fed committed w (events.Balance node who) h = acted_at w node (tell_balance who) (slice_get w.nodes node) refl h (λ p g. g)
+  stepped placed fed committed w (events.Spec node who) h = acted_at w node (tell_speculative who) (slice_get w.nodes node) refl h (λ p g. g)
+  stepped placed fed committed w (events.Filled node id) h = acted_at w node (tell_filled id) (slice_get w.nodes node) refl h (λ p g. g)
+  stepped placed fed committed w (events.Best node market) h = acted_at w node (tell_best market) (slice_get w.nodes node) refl h (λ p g. g)
+  stepped placed fed committed w (events.Audit node) h = acted_at w node tell_audit (slice_get w.nodes node) refl h (λ p g. g)
+  stepped placed fed committed w event h = h
 
   -- and so do all events
-  ran : ((o : Option Block) (p : PlainNode) → P p → P (commit_slot o p).0) → (w : World) (es : List Event) → All P w.nodes → All P (after w es).nodes
+  ran : ((w : World) (event : Event) → All P w.nodes → All P (step w event).0.nodes) → (w : World) (es : List Event) → All P w.nodes → All P (after w es).nodes
   ran k w [] h = h
-  ran k w (e ∷ es) h = ran k (step w e).0 es (stepped k w e h)
+  ran k w (e ∷ es) h = ran k (step w e).0 es (k w e h)
 
--- the blocks of a node lead to a state
-IsGood : PlainNode → Type 0
-IsGood p = IsOk (fold_blocks p.genesis p.blocks)
-
-state_of : (r : Result State Bad) → IsOk r → (s : State) × (r ≡ Ok s)
-state_of (Ok s) h = (s, refl)
-state_of (Err bad) h = absurd (cc)
-
-committed_good : (s : State) (p : PlainNode) (b : Block) (r : Result (State × List ℕ) Bad) → StandsFor s p → block_step s b ≡ r → IsGood p → IsGood (commit_slot (Some b) p).0
-unfolding IsGood
-committed_good s p b (Ok x) st e h =
-    let done = acts_good s x.0 b x.1 (b.height ∷ x.1) e refl p st in
-    rw done.0 refl
-committed_good s p b (Err bad) st e h = rw (acts_bad s b bad e p st).0 refl
-
-slot_good : (o : Option Block) (p : PlainNode) → IsGood p → IsGood (commit_slot o p).0
-unfolding IsGood
-slot_good None p h = h
-slot_good (Some b) p h =
-    let state = state_of (fold_blocks p.genesis p.blocks) h in
-    committed_good state.0 p b (block_step state.0 b) state.1 refl h
-
-new_good : (g : Genesis) → IsGood (new_node g)
-unfolding IsGood
-new_good g = rw (stands_new g) refl
-
-first_good : (nodes : ℕ) (g : Genesis) → All IsGood (replicate nodes (new_node g))
-first_good nodes g = All-replicate IsGood nodes (new_node g) (new_good g)
-
--- the blocks of each node are good in every world
+-- the committed state of each node is the fold of its blocks in every world
 pub folds_stay_good : FoldsStayGood
-unfolding IsGood
-folds_stay_good = (first_good, stepped IsGood slot_good)
+folds_stay_good = (
+  λ nodes g. first_nodes IsFold nodes g (λ number. new_folds number g),
+  stepped IsFold (λ o p h. (placing_folds o p h).0) (λ market price p h. (feeding_folds market price p h).0) (λ o p h. (committing_folds o p h).0),
+)
 
--- and the genesis of each is in its ranges
-IsOfGenesis : PlainNode → Type 0
-IsOfGenesis p = IsGood p × IsGenesis p.genesis
+-- the states where the state of one node comes to be another
+state_set : (ps : List Node) (n : ℕ) (p q : Node) (f : State → State) → slice_get ps n ≡ Some p → committed q ≡ f (committed p) → map committed (slice_set ps n q) ≡ changed_at (map committed ps) n f
+state_set [] n p q f e h = refl
+state_set (x ∷ ps) zero p q f e h = let same : x ≡ p = cc in ap (λ s. s ∷ map committed ps) (h ∙ ap (λ (y : Node). f (committed y)) (sym same))
+state_set (x ∷ ps) (suc n) p q f e h = ap (λ ss. committed x ∷ ss) (state_set ps n p q f e h)
 
--- a commit leaves the genesis
-commit_genesis : (p : PlainNode) (b : Block) (r : Result (State × List ℕ) Bad) → block_step (committed p) b ≡ r → (commit_slot (Some b) p).0.genesis ≡ p.genesis
-commit_genesis p b (Ok x) e = rw e refl
-commit_genesis p b (Err bad) e = rw e refl
+-- the states where there is no such node
+state_none : (ps : List Node) (n : ℕ) (f : State → State) → slice_get ps n ≡ None → map committed ps ≡ changed_at (map committed ps) n f
+state_none [] n f e = refl
+state_none (x ∷ ps) zero f e = absurd (cc)
+state_none (x ∷ ps) (suc n) f e = ap (λ ss. committed x ∷ ss) (state_none ps n f e)
 
-slot_genesis : (o : Option Block) (p : PlainNode) → (commit_slot o p).0.genesis ≡ p.genesis
-slot_genesis None p = refl
-slot_genesis (Some b) p = commit_genesis p b (block_step (committed p) b) refl
+-- the states where that of one node stays
+state_same : (ps : List Node) (n : ℕ) (p q : Node) → slice_get ps n ≡ Some p → committed q ≡ committed p → map committed (slice_set ps n q) ≡ map committed ps
+state_same [] n p q e h = refl
+state_same (x ∷ ps) zero p q e h = let same : x ≡ p = cc in ap (λ s. s ∷ map committed ps) (h ∙ ap (λ (y : Node). committed y) (sym same))
+state_same (x ∷ ps) (suc n) p q e h = ap (λ ss. committed x ∷ ss) (state_same ps n p q e h)
 
-slot_of_genesis : (o : Option Block) (p : PlainNode) → IsOfGenesis p → IsOfGenesis (commit_slot o p).0
-unfolding IsOfGenesis
-slot_of_genesis o p h = (slot_good o p h.0, subst IsGenesis (sym (slot_genesis o p)) h.1)
+-- one node has acted, and its state stays
+act_stays : (w : World) (node : ℕ) (act : Node → Node × Answer) (o : Option Node) → slice_get w.nodes node ≡ o → All IsFold w.nodes → ((p : Node) → IsFold p → FoldsTo (act p).0 (committed p)) → map committed (node_acts w o node act).0.nodes ≡ map committed w.nodes
+act_stays w node act None e h a = refl
+act_stays w node act (Some p) e h a = state_same w.nodes node p (act p).0 e (a p (all_at IsFold w.nodes node p e h)).1
 
-new_of_genesis : (g : Genesis) → IsGenesis g → IsOfGenesis (new_node g)
-unfolding IsOfGenesis
-new_of_genesis g h = (new_good g, h)
+-- one node has only told something
+tell_stays : (w : World) (node : ℕ) (act : Node → Node × Answer) → All IsFold w.nodes → ((p : Node) → (act p).0 ≡ p) → map committed (node_acts w (slice_get w.nodes node) node act).0.nodes ≡ map committed w.nodes
+tell_stays w node act h a = act_stays w node act (slice_get w.nodes node) refl h (λ p k. subst (λ x. FoldsTo x (committed p)) (sym (a p)) (k, refl))
+
+-- one node has committed
+commit_changes : (w : World) (node : ℕ) (b : Option Block) (o : Option Node) → slice_get w.nodes node ≡ o → All IsFold w.nodes → map committed (node_acts w o node (commit_slot b)).0.nodes ≡ changed_at (map committed w.nodes) node (after_block b)
+commit_changes w node b None e h = state_none w.nodes node (after_block b) e
+commit_changes w node b (Some p) e h = state_set w.nodes node p (commit_slot b p).0 (after_block b) e (committing_folds b p (all_at IsFold w.nodes node p e h)).1
+
+-- nothing but a commit changes a committed state
+pub only_commits_count : OnlyCommitsCount
+only_commits_count w (events.Place node order) h = act_stays w node (place_order order) (slice_get w.nodes node) refl h (placing_folds order)
+only_commits_count w (events.Feed node market price) h = act_stays w node (feed_price market price) (slice_get w.nodes node) refl h (feeding_folds market price)
+only_commits_count w (events.Propose node slot time) h = ap (map committed) (propose_nodes w (slice_get w.nodes node) slot time)
+only_commits_count w (events.Commit node slot) h = commit_changes w node (get w.slots slot) (slice_get w.nodes node) refl h
+only_commits_count w (events.Check node slot) h = tell_stays w node (check_slot (get w.slots slot)) h (λ p. refl)
+only_commits_count w (events.Balance node who) h = tell_stays w node (tell_balance who) h (λ p. refl)
+only_commits_count w (events.Spec node who) h = tell_stays w node (tell_speculative who) h (λ p. refl)
+only_commits_count w (events.Filled node id) h = tell_stays w node (tell_filled id) h (λ p. refl)
+only_commits_count w (events.Best node market) h = tell_stays w node (tell_best market) h (λ p. refl)
+only_commits_count w (events.Audit node) h = tell_stays w node tell_audit h (λ p. refl)
+only_commits_count w event h = refl
+
+-- every node of a run lives
+all_live : (nodes : ℕ) (g : Genesis) (es : List Event) → IsGenesis g → All Lives (after (world_of nodes g) es).nodes
+all_live nodes g es h = ran Lives (stepped Lives placing_lives feeding_lives committing_lives) (world_of nodes g) es (first_nodes Lives nodes g (λ number. new_lives number g h))
 
 -- the state of good blocks from a genesis in its ranges
-in_balance : (p : PlainNode) → IsOfGenesis p → IsInBalance (committed p)
-unfolding IsOfGenesis IsGood
+in_balance : (p : Node) → Lives p → IsInBalance (committed p)
 in_balance p h =
-    let state = state_of (fold_blocks p.genesis p.blocks) h.0 in
-    let both = blocks_are_sound p.genesis p.blocks state.0 h.1 state.1 in
-    subst IsInBalance (sym (is_committed state.0 p state.1)) (record { sound = both.0; balanced = both.1; audit = balance_shown state.0 both.1 })
+    let both = blocks_are_sound p.genesis p.blocks (committed p) h.genesis h.fold.folded in
+    record { sound = both.0; balanced = both.1; audit = balance_shown (committed p) both.1 }
 
 -- each committed state of a run is sound and balanced
 pub states_balance : StatesBalance
-states_balance nodes g es h =
-    let kept = ran IsOfGenesis slot_of_genesis (world_of nodes g) es (All-replicate IsOfGenesis nodes (new_node g) (new_of_genesis g h)) in
-    λ k d lt. in_balance _ (kept k d lt)
+states_balance nodes g es h = λ n d lt. in_balance _ (all_live nodes g es h n d lt)
+
+-- and what each node proposes is good
+pub proposals_are_good : ProposalsAreGood
+proposals_are_good nodes g es h = λ n d lt. proposes_good _ (all_live nodes g es h n d lt)

@@ -1,4 +1,4 @@
--- The events that are carried out yet, and what is built of a block's lists.
+-- The events that are carried out so far, and what is built of a block's lists.
 use Rattle.std.specs.Prelude.{ℕ, Bool, true, false, List, [], ◌∷◌, Option, Some, None, if◌then◌else◌}
 use Rattle.std.specs.List.{list_all}
 use Rattle.dx_types.specs.declared.Op.{Op}
@@ -8,7 +8,7 @@ use Rattle.dx_types.specs.declared.Msg.TheVariants.{Deposit, Withdraw, Transfer,
 use Rattle.dx_types.specs.declared.Vote.{Vote}
 use Rattle.dx_types.specs.declared.Block.{Block}
 use Rattle.dx_scenario.specs.declared.event.Event.{Event}
-use Rattle.dx_scenario.specs.declared.event.Event.TheVariants.{Handed, Check, Commit, Balance, Audit}
+use Rattle.dx_scenario.specs.declared.event.Event.TheVariants as events
 
 -- orders are placed and matched; liquidations, deleveragings and removals are not carried out yet
 abbrev pub is_built_operation : Op → Bool
@@ -40,9 +40,15 @@ unbuilt_list b =
 
 -- the place of what is not built in an event's line: the event's word, or a list of its block
 abbrev pub unbuilt_place : Event → Option ℕ
-unbuilt_place (Handed slot b) = unbuilt_list b
-unbuilt_place (Check node slot) = None
-unbuilt_place (Commit node slot) = None
-unbuilt_place (Balance node who) = None
-unbuilt_place (Audit node) = None
+unbuilt_place (events.Place node order) = None
+unbuilt_place (events.Feed node market price) = None
+unbuilt_place (events.Propose node slot time) = None
+unbuilt_place (events.Handed slot b) = unbuilt_list b
+unbuilt_place (events.Check node slot) = None
+unbuilt_place (events.Commit node slot) = None
+unbuilt_place (events.Balance node who) = None
+unbuilt_place (events.Spec node who) = None
+unbuilt_place (events.Filled node id) = None
+unbuilt_place (events.Best node market) = None
+unbuilt_place (events.Audit node) = None
 unbuilt_place event = Some 0

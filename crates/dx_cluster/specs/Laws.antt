@@ -1,23 +1,70 @@
 -- What holds in every world.
-use Rattle.std.specs.Prelude.{ℕ, List, [], ◌∷◌, All, IsOk}
+use Rattle.std.specs.Prelude.{◌≡◌, ℕ, Bool, true, false, IsTrue, List, [], ◌∷◌, map, Option, Some, None, Result, Ok, Err, All}
+use Rattle.std.specs.FinMap.{get}
 use Rattle.dx_types.specs.declared.Genesis.{Genesis}
-use Rattle.dx_spec.specs.State.{State}
+use Rattle.dx_types.specs.declared.Block.{Block}
+use Rattle.dx_types.specs.declared.Bad.{Bad}
+use Rattle.dx_spec.specs.Lists.{changed_at}
+use Rattle.dx_spec.specs.State.{State, genesis_state}
 use Rattle.dx_spec.specs.Genesis.{IsGenesis}
-use Rattle.dx_spec.specs.Blocks.{fold_blocks}
+use Rattle.dx_spec.specs.Blocks.{block_step, fold_blocks}
 use Rattle.dx_spec.specs.Balance.{Sound, Balanced}
 use Rattle.dx_spec.specs.Audits.{audit}
 use Rattle.dx_laws.specs.Laws.{IsAuditBalanced}
+use Rattle.dx_node_spec.specs.Node.{Node, committed}
+use Rattle.dx_speculation.specs.Faithful.{IsGoodBlock}
+use Rattle.dx_node.specs.Stage.{propose}
 use Rattle.dx_scenario.specs.declared.event.Event.{Event}
-use Rattle.dx_cluster.specs.Nodes.{committed}
+use Rattle.dx_scenario.specs.declared.event.Event.TheVariants as events
+use Rattle.dx_cluster.specs.Stored.{Stored}
 use Rattle.dx_cluster.specs.World.{World, world_of, step}
 
--- the blocks of each node are good, so that its state is the plain fold of them
-abbrev pub AllFold : World → Type 0
-AllFold w = All (λ p. IsOk (fold_blocks p.genesis p.blocks)) w.nodes
+-- the committed state of a node is the plain fold of its blocks from its genesis on, and all of them are good
+pub record IsFold (p : Node) : Type 0 where
+  pub base : p.base ≡ genesis_state p.genesis
+  pub folded : fold_blocks p.genesis p.blocks ≡ Ok (committed p)
 
--- they are so at first, and whatever happens
+-- each node's is so at first, and whatever happens
 abbrev pub FoldsStayGood : Type 0
-FoldsStayGood = ((nodes : ℕ) (g : Genesis) → AllFold (world_of nodes g)) × ((w : World) (event : Event) → AllFold w → AllFold (step w event).0)
+FoldsStayGood = ((nodes : ℕ) (g : Genesis) → All IsFold (world_of nodes g).nodes) × ((w : World) (event : Event) → All IsFold w.nodes → All IsFold (step w event).0.nodes)
+
+-- the state to which a step led, or the one before it where the block was bad
+abbrev pub state_or : State → Result (State × List ℕ) Bad → State
+state_or s (Ok r) = r.0
+state_or s (Err bad) = s
+
+-- a state after the block of a slot; a slot that was never filled leaves it
+abbrev pub after_block : Option Block → State → State
+after_block None s = s
+after_block (Some b) s = state_or s (block_step s b)
+
+-- the committed states after an event: a commit applies the block of its slot at its node, and no other event changes any
+abbrev pub states_after : List State → Stored → Event → List State
+states_after ss slots (events.Commit node slot) = changed_at ss node (after_block (get slots slot))
+states_after ss slots event = ss
+
+-- so what the nodes have placed, matched or been fed comes into a committed state only by a block that is committed
+abbrev pub OnlyCommitsCount : Type 0
+OnlyCommitsCount = (w : World) (event : Event) → All IsFold w.nodes → map committed (step w event).0.nodes ≡ states_after (map committed w.nodes) w.slots event
+
+-- an event whose reply is of committed states and slots
+abbrev pub is_of_committed : Event → Bool
+is_of_committed (events.Handed slot b) = true
+is_of_committed (events.Check node slot) = true
+is_of_committed (events.Commit node slot) = true
+is_of_committed (events.Balance node who) = true
+is_of_committed (events.Audit node) = true
+is_of_committed event = false
+
+-- two worlds have the same committed states and the same blocks in their slots, whatever else their nodes hold
+pub record AreAlike (w v : World) : Type 0 where
+  pub states : map committed w.nodes ≡ map committed v.nodes
+  pub slots : w.slots ≡ v.slots
+
+-- they give the same reply to such an event, and are alike after it
+abbrev pub CommittedRepliesAgree : Type 0
+CommittedRepliesAgree = (w v : World) (event : Event) → All IsFold w.nodes → All IsFold v.nodes → AreAlike w v → IsTrue (is_of_committed event)
+    → ((step w event).1 ≡ (step v event).1) × AreAlike (step w event).0 (step v event).0
 
 -- the world after events, in order
 abbrev pub after : World → List Event → World
@@ -30,10 +77,14 @@ pub record IsInBalance (s : State) : Type 0 where
   pub balanced : Balanced s
   pub audit : IsAuditBalanced (audit s)
 
--- each node's committed state is
-abbrev pub AllBalance : World → Type 0
-AllBalance w = All (λ p. IsInBalance (committed p)) w.nodes
-
--- in every world that a scenario reaches, from nodes of a genesis in its ranges on
+-- each node's committed state is, in every world that a scenario reaches from nodes of a genesis in its ranges on
 abbrev pub StatesBalance : Type 0
-StatesBalance = (nodes : ℕ) (g : Genesis) (events : List Event) → IsGenesis g → AllBalance (after (world_of nodes g) events)
+StatesBalance = (nodes : ℕ) (g : Genesis) (es : List Event) → IsGenesis g → All (λ p. IsInBalance (committed p)) (after (world_of nodes g) es).nodes
+
+-- what a node proposes is good on its committed state
+abbrev pub ProposesGood : Node → Type 0
+ProposesGood p = (time : ℕ) (b : Block) → propose p time ≡ Ok b → IsGoodBlock (committed p) b
+
+-- each node does so, in every such world
+abbrev pub ProposalsAreGood : Type 0
+ProposalsAreGood = (nodes : ℕ) (g : Genesis) (es : List Event) → IsGenesis g → All ProposesGood (after (world_of nodes g) es).nodes

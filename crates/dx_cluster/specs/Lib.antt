@@ -1,6 +1,6 @@
 pub mod Built
+pub mod Stored
+pub mod Acts
 pub mod Refusals
-pub mod Nodes
-pub mod Held
 pub mod World
 pub mod Laws

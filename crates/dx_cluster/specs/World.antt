@@ -1,104 +1,118 @@
 -- All nodes and slots, and what an event does.
-use Rattle.std.specs.Prelude.{◌≡◌, ℕ, List, [], ◌∷◌, map, replicate, Option, Some, None, Result, Ok, Err, slice_get, slice_set}
-use Rattle.std.specs.List.{AllZip}
+use Rattle.std.specs.Prelude.{◌≡◌, ℕ, List, map, length, sum_by, Option, Some, None, Result, Ok, Err, slice_get, slice_set}
+use Rattle.std.specs.List.{AllZip, range_with_len}
 use Rattle.std.specs.FinMap.{get, insert, empty}
-use Rattle.dx_types.specs.declared.SubaccountId.{SubaccountId}
-use Rattle.dx_types.specs.declared.Account.{Account}
 use Rattle.dx_types.specs.declared.Block.{Block}
-use Rattle.dx_types.specs.declared.Bad.{Bad}
 use Rattle.dx_types.specs.declared.Genesis.{Genesis}
-use Rattle.dx_spec.specs.State.{State}
+use Rattle.dx_spec.specs.Blocks.{fills_in}
+use Rattle.dx_node_spec.specs.Node.{Node, new_node}
+use Rattle.dx_node_spec.specs.Placing.{Refusal}
+use Rattle.dx_node.specs.Held.{Held}
+use Rattle.dx_node.specs.Stage.{propose}
+use Rattle.dx_node.specs.Standing.{StandsFor}
 use Rattle.dx_scenario.specs.declared.event.Event.{Event}
-use Rattle.dx_scenario.specs.declared.event.Event.TheVariants.{Handed, Check, Commit, Balance, Audit}
+use Rattle.dx_scenario.specs.declared.event.Event.TheVariants as events
 use Rattle.dx_print.specs.declared.replies.Word.{Word}
 use Rattle.dx_print.specs.declared.replies.Word.TheVariants as words
 use Rattle.dx_print.specs.declared.replies.Reply.{Reply}
 use Rattle.dx_print.specs.declared.answer.Answer.{Answer}
 use Rattle.dx_print.specs.declared.answer.Answer.TheVariants as answers
 use Rattle.dx_cluster.specs.declared.cluster.Cluster.{Cluster}
-use Rattle.dx_cluster.specs.Nodes.{PlainNode, new_node, height_of, account_at, audit_of, commit, verdict, StandsFor}
-use Rattle.dx_cluster.specs.Held.{Held}
+use Rattle.dx_cluster.specs.Stored.{Stored}
+use Rattle.dx_cluster.specs.Acts.{height_of, refused, place_order, feed_price, check_slot, commit_slot, tell_balance, tell_speculative, tell_filled, tell_best, tell_audit}
 
 -- the nodes by number, and the blocks in the slots
 pub record World : Type 0 where
-  pub nodes : List PlainNode
-  pub slots : Held
+  pub nodes : List Node
+  pub slots : Stored
 
--- so many nodes of one genesis, and no slot filled
+-- so many nodes of one genesis, numbered from 0, and no slot filled
 abbrev pub world_of : ℕ → Genesis → World
-world_of nodes g = record { nodes = replicate nodes (new_node g); slots = empty }
+world_of nodes g = record { nodes = map (λ number. new_node number g) (range_with_len 0 nodes); slots = empty }
 
 -- the answer to the first line: the height of each node
 abbrev pub heights : World → Answer
 heights w = answers.Heights (map height_of w.nodes)
 
 -- what a node does changes that node alone; where there is no such node, nothing is done
-abbrev pub node_acts : World → Option PlainNode → ℕ → (PlainNode → PlainNode × Answer) → World × Answer
+abbrev pub node_acts : World → Option Node → ℕ → (Node → Node × Answer) → World × Answer
 node_acts w None node act = (w, answers.Absent)
 node_acts w (Some p) node act = (record w { nodes = slice_set w.nodes node (act p).0 }, (act p).1)
 
 -- the same by the node's number
-abbrev pub act_at : World → ℕ → (PlainNode → PlainNode × Answer) → World × Answer
+abbrev pub act_at : World → ℕ → (Node → Node × Answer) → World × Answer
 act_at w node act = node_acts w (slice_get w.nodes node) node act
 
--- whether a block is good, or its first bad part
-abbrev pub check_answer : Result (State × List ℕ) Bad → Answer
-check_answer (Ok r) = answers.Good []
-check_answer (Err bad) = answers.Bad bad
+-- what is told of a proposal: its height, and how many operations, fills and offsets, messages, votes and prices it has
+abbrev pub proposed : Block → Answer
+proposed b = answers.Proposed b.height (length b.ops) (sum_by fills_in b.ops) (length b.msgs) (length b.votes) (length b.prices)
 
--- the same of the block of a slot
-abbrev pub slot_answer : Option Block → PlainNode → Answer
-slot_answer None p = answers.Empty
-slot_answer (Some b) p = check_answer (verdict p b)
+-- a proposal is put into a slot; a refused one leaves it as it was
+abbrev pub put_proposal : World → ℕ → Result Block Refusal → World × Answer
+put_proposal w slot (Ok b) = (record w { slots = insert w.slots slot b }, proposed b)
+put_proposal w slot (Err cause) = (w, refused cause)
 
--- a node tests the block of a slot, and stays as it was
-abbrev pub check_slot : Option Block → PlainNode → PlainNode × Answer
-check_slot o p = (p, slot_answer o p)
+-- a node proposes for a slot and a time; where there is no such node, nothing is done
+abbrev pub node_proposes : World → Option Node → ℕ → ℕ → World × Answer
+node_proposes w None slot time = (w, answers.Absent)
+node_proposes w (Some p) slot time = put_proposal w slot (propose p time)
 
--- the height and the results of a good block, or its first bad part, which changes nothing
-abbrev pub commit_answer : PlainNode → Block → Result (PlainNode × List ℕ) Bad → PlainNode × Answer
-commit_answer p b (Ok r) = (r.0, answers.Good (b.height ∷ r.1))
-commit_answer p b (Err bad) = (p, answers.Bad bad)
+-- the same by the node's number
+abbrev pub propose_at : World → ℕ → ℕ → ℕ → World × Answer
+propose_at w node slot time = node_proposes w (slice_get w.nodes node) slot time
 
--- a node commits the block of a slot
-abbrev pub commit_slot : Option Block → PlainNode → PlainNode × Answer
-commit_slot None p = (p, answers.Empty)
-commit_slot (Some b) p = commit_answer p b (commit p b)
+-- the word that is replied to an event
+abbrev pub word_of : Event → Word
+word_of (events.Place node order) = words.Place
+word_of (events.Cancel node id until) = words.Cancel
+word_of (events.CancelAll node who) = words.CancelAll
+word_of (events.Message node msg) = words.Message
+word_of (events.Feed node market price) = words.Feed
+word_of (events.Sweep node who) = words.Sweep
+word_of (events.Propose node slot time) = words.Propose
+word_of (events.Handed slot block) = words.Block
+word_of (events.Show slot) = words.Show
+word_of (events.Check node slot) = words.Check
+word_of (events.Commit node slot) = words.Commit
+word_of (events.Balance node who) = words.Balance
+word_of (events.Spec node who) = words.Spec
+word_of (events.Filled node id) = words.Filled
+word_of (events.Best node market) = words.Best
+word_of (events.Audit node) = words.Audit
+word_of (events.Digest node) = words.Digest
+word_of (events.Restart node) = words.Restart
 
--- the account with the height at which it stands
-abbrev pub balance_answer : ℕ → Option Account → Answer
-balance_answer height None = answers.Absent
-balance_answer height (Some a) = answers.Balance height a
-
--- a node tells an account's committed balance
-abbrev pub tell_balance : SubaccountId → PlainNode → PlainNode × Answer
-tell_balance who p = (p, balance_answer (height_of p) (account_at p who))
-
--- a node tells the numbers of its committed state
-abbrev pub tell_audit : PlainNode → PlainNode × Answer
-tell_audit p = (p, answers.Audit (audit_of p))
+-- all nodes and slots after an event, and the answer to it; an event that is not built is in no transcript, and does nothing
+abbrev pub acted : World → Event → World × Answer
+acted w (events.Place node order) = act_at w node (place_order order)
+acted w (events.Feed node market price) = act_at w node (feed_price market price)
+acted w (events.Propose node slot time) = propose_at w node slot time
+acted w (events.Handed slot b) = (record w { slots = insert w.slots slot b }, answers.Done None)
+acted w (events.Check node slot) = act_at w node (check_slot (get w.slots slot))
+acted w (events.Commit node slot) = act_at w node (commit_slot (get w.slots slot))
+acted w (events.Balance node who) = act_at w node (tell_balance who)
+acted w (events.Spec node who) = act_at w node (tell_speculative who)
+acted w (events.Filled node id) = act_at w node (tell_filled id)
+acted w (events.Best node market) = act_at w node (tell_best market)
+acted w (events.Audit node) = act_at w node tell_audit
+acted w event = (w, answers.Absent)
 
 -- the answer behind the event's word
 abbrev pub replied : Word → World × Answer → World × Reply
 replied word r = (r.0, record { word = word; answer = r.1 })
 
--- all nodes and slots after an event, and the reply to it; an event that is not built is in no transcript, and does nothing
+-- all nodes and slots after an event, and the reply to it
 abbrev pub step : World → Event → World × Reply
-step w (Handed slot b) = replied words.Block (record w { slots = insert w.slots slot b }, answers.Done None)
-step w (Check node slot) = replied words.Check (act_at w node (check_slot (get w.slots slot)))
-step w (Commit node slot) = replied words.Commit (act_at w node (commit_slot (get w.slots slot)))
-step w (Balance node who) = replied words.Balance (act_at w node (tell_balance who))
-step w (Audit node) = replied words.Audit (act_at w node tell_audit)
-step w event = replied words.Genesis (w, answers.Absent)
+step w event = replied (word_of event) (acted w event)
 
 -- what the program holds stands for the nodes and slots: each state is the plain fold of its node's blocks
 pub record Stands (c : Cluster) (w : World) : Type 0 where
   pub nodes : AllZip StandsFor c.nodes.items w.nodes
   pub slots : c.slots ≡ w.slots
 
--- whichever node a state stands for, the new state stands for the node after what it does, and the answer is its answer
-abbrev pub Acts : (PlainNode → PlainNode × Answer) → State → State → Answer → Type 0
-Acts act old new answer = (p : PlainNode) → StandsFor old p → StandsFor new (act p).0 × (answer ≡ (act p).1)
+-- for every plain node that the old one stands for, the new one stands for what the act makes of it, and the answer is that of the act
+abbrev pub Acts : (Node → Node × Answer) → Held → Held → Answer → Type 0
+Acts act old new answer = (p : Node) → StandsFor old p → StandsFor new (act p).0 × (answer ≡ (act p).1)
 
 -- a node has done something: its answer, and what the program holds after it
 pub record HasActed (r : World × Answer) (after : Cluster) (answer : Answer) : Type 0 where

@@ -1,22 +1,102 @@
 //! What one node does, and its answer.
 
-ghost use Rattle.std.specs.Prelude.{◌≡◌, ◌∷◌, Ok, Some, IfOk};
+ghost use Rattle.std.specs.Prelude.{◌≡◌, ◌∷◌, Some, IfOk};
 ghost use Rattle.dx_rules.specs.Built.{IsBuilt};
-ghost use Rattle.dx_cluster.specs.World.{Acts, check_slot, commit_slot, tell_balance, tell_audit};
-ghost use Rattle.dx_cluster.specs.Refusals.{AnswersRefusal};
+ghost use Rattle.dx_node_spec.specs.Placing.{refusal};
+ghost use Rattle.dx_node.specs.Stages.{outcome_of};
+ghost use Rattle.dx_cluster.specs.Acts.{refused, outcome_answer, place_order, feed_price, check_slot, commit_slot, best_answer, tell_balance, tell_speculative, tell_filled, tell_best, tell_audit};
+ghost use Rattle.dx_cluster.specs.World.{Acts};
+ghost use Rattle.dx_cluster.specs.Refusals.{AnswersCheck, AnswersCommit, AnswersPlace};
 
-use crate::node::Node;
+use dx_node::{CommitFault, Node, PlaceFault, Placed};
 use dx_print::Answer;
 use dx_rules::BlockFault;
-use dx_types::{Block, List, NoMemory, SubaccountId};
+use dx_types::{Block, List, NoMemory, Order, OrderId, SubaccountId};
+use std::alloc::Global;
 
-/// The answer to a block that was not applied, or that there was no memory.
-fn refusal(fault: BlockFault) -> Result<Answer, NoMemory>
-    ensures { AnswersRefusal fault result }
+/// The number of the refusal of a market that is unknown.
+const NO_MARKET: u32 = 1;
+
+/// The answer that an event is refused, by the number of the cause.
+pub(crate) fn refused(number: u32) -> Answer
+    ensures { result ≡ refused (refusal number) }
+{
+    Answer::Refused {
+        number,
+        value: None,
+    }
+}
+
+/// The answer to an order that was placed.
+fn outcome_answer(placed: Placed) -> Answer
+    ensures { result ≡ outcome_answer (outcome_of placed) }
+{
+    match placed {
+        Placed::Filled => Answer::Filled,
+        Placed::Rested { filled } => Answer::Rested { filled },
+        Placed::Dropped { filled } => Answer::Dropped { filled },
+        Placed::Stopped { filled, code } => Answer::Stopped { filled, code },
+    }
+}
+
+/// The answer to an order that was not placed, or that there was no memory.
+fn place_refusal(fault: PlaceFault) -> Result<Answer, NoMemory>
+    ensures { AnswersPlace fault result }
+{
+    if fault == PlaceFault::NoMemory {
+        return Err(NoMemory);
+    }
+    Ok(refused(fault.number()))
+}
+
+/// A node takes an order.
+pub(crate) fn place_order(node: &mut Node, order: &Order) -> Result<Answer, NoMemory>
+    ensures { IfOk result (λ answer. Acts (place_order order.now) node.old node.new answer) }
+{
+    match node.place(order) {
+        Ok(placed) => Ok(outcome_answer(placed)),
+        Err(fault) => place_refusal(fault),
+    }
+}
+
+/// A node is fed a price.
+pub(crate) fn feed_price(node: &mut Node, market: u32, price: u64) -> Answer
+    ensures { Acts (feed_price market price) node.old node.new result }
+{
+    match node.feed(market, price) {
+        Ok(()) => Answer::Done(None),
+        Err(fault) => refused(fault.number()),
+    }
+}
+
+/// The answer to a block that is not good, or that there was no memory.
+fn check_refusal(fault: BlockFault) -> Result<Answer, NoMemory>
+    ensures { AnswersCheck fault result }
 {
     match fault {
         BlockFault::Bad(bad) => Ok(Answer::Bad(bad)),
         BlockFault::NoMemory => Err(NoMemory),
+    }
+}
+
+/// A node tests a block, and stays as it was.
+pub(crate) fn check_block(alloc: Global, node: &mut Node, block: &Block) -> Result<Answer, NoMemory>
+    requires { IsBuilt block.now }
+    ensures { IfOk result (λ answer. Acts (check_slot (Some block.now)) node.old node.new answer) }
+{
+    match node.check(block) {
+        Ok(()) => Ok(Answer::Good(List::new(alloc))),
+        Err(fault) => check_refusal(fault),
+    }
+}
+
+/// The answer to a block that was not committed, or that there was no memory.
+fn commit_refusal(fault: CommitFault) -> Result<Answer, NoMemory>
+    ensures { AnswersCommit fault result }
+{
+    match fault {
+        CommitFault::Bad(bad) => Ok(Answer::Bad(bad)),
+        CommitFault::NoMemory => Err(NoMemory),
     }
 }
 
@@ -30,30 +110,19 @@ fn good_numbers(height: u32, results: &List<u32>) -> Result<List<u32>, NoMemory>
     Ok(List::from_vec(numbers))
 }
 
-/// A node tests a block, and stays as it was.
-pub fn check_block(node: &mut Node, block: &Block) -> Result<Answer, NoMemory>
-    requires { IsBuilt block.now }
-    ensures { IfOk result (λ answer. Acts (check_slot (Some block.now)) node.old node.new answer) }
-{
-    match node.check(block) {
-        Ok(()) => Ok(Answer::Good(List::new(block.msgs.allocator()))),
-        Err(fault) => refusal(fault),
-    }
-}
-
 /// A node commits a block.
-pub fn commit_block(node: &mut Node, block: &Block) -> Result<Answer, NoMemory>
+pub(crate) fn commit_block(node: &mut Node, block: &Block) -> Result<Answer, NoMemory>
     requires { IsBuilt block.now }
     ensures { IfOk result (λ answer. Acts (commit_slot (Some block.now)) node.old node.new answer) }
 {
     match node.commit(block) {
         Ok(results) => Ok(Answer::Good(good_numbers(block.height, &results)?)),
-        Err(fault) => refusal(fault),
+        Err(fault) => commit_refusal(fault),
     }
 }
 
 /// A node tells an account's committed balance.
-pub fn tell_balance(node: &Node, who: SubaccountId) -> Answer
+pub(crate) fn tell_balance(node: &Node, who: SubaccountId) -> Answer
     ensures { Acts (tell_balance who) node.now node.now result }
 {
     match node.committed_account(who) {
@@ -65,8 +134,49 @@ pub fn tell_balance(node: &Node, who: SubaccountId) -> Answer
     }
 }
 
+/// A node tells an account's balance after its queue, with the committed height.
+pub(crate) fn tell_speculative(node: &Node, who: SubaccountId) -> Answer
+    ensures { Acts (tell_speculative who) node.now node.now result }
+{
+    match node.speculative_account(who) {
+        Some(account) => Answer::Balance {
+            height: node.height(),
+            account,
+        },
+        None => Answer::Absent,
+    }
+}
+
+/// A node tells how much of an order is filled.
+pub(crate) fn tell_filled(node: &Node, id: &OrderId) -> Answer
+    ensures { Acts (tell_filled id.now) node.now node.now result }
+{
+    let (committed, speculative) = node.filled(id);
+    Answer::Amounts {
+        committed,
+        speculative,
+    }
+}
+
+/// The answer about the best orders of a market, which may be unknown.
+fn best_answer(levels: Option<[u64; 4]>) -> Answer
+    ensures { result ≡ best_answer levels }
+{
+    match levels {
+        Some(levels) => Answer::Best(levels),
+        None => refused(NO_MARKET),
+    }
+}
+
+/// A node tells the best orders of a market.
+pub(crate) fn tell_best(node: &Node, market: u32) -> Answer
+    ensures { Acts (tell_best market) node.now node.now result }
+{
+    best_answer(node.best(market))
+}
+
 /// A node tells the numbers of its committed state.
-pub fn tell_audit(node: &Node) -> Answer
+pub(crate) fn tell_audit(node: &Node) -> Answer
     ensures { Acts tell_audit node.now node.now result }
 {
     Answer::Audit(node.audit())

@@ -79,19 +79,21 @@ pub fn unbuilt_place(event: &Event) -> Option<u32>
 {
     match event {
         Event::Handed { block, .. } => unbuilt_list(block),
-        Event::Check { .. } | Event::Commit { .. } | Event::Balance { .. } | Event::Audit { .. } =>
-            None,
         Event::Place { .. }
-        | Event::Cancel { .. }
-        | Event::CancelAll { .. }
-        | Event::Message { .. }
         | Event::Feed { .. }
-        | Event::Sweep { .. }
         | Event::Propose { .. }
-        | Event::Show { .. }
+        | Event::Check { .. }
+        | Event::Commit { .. }
+        | Event::Balance { .. }
         | Event::Spec { .. }
         | Event::Filled { .. }
         | Event::Best { .. }
+        | Event::Audit { .. } => None,
+        Event::Cancel { .. }
+        | Event::CancelAll { .. }
+        | Event::Message { .. }
+        | Event::Sweep { .. }
+        | Event::Show { .. }
         | Event::Digest { .. }
         | Event::Restart { .. } => Some(WORD),
     }

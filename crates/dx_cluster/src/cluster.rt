@@ -2,18 +2,25 @@
 
 ghost use Rattle.std.specs.Prelude.{◌<◌, ◌≤◌, length};
 
-use crate::acts::{check_block, commit_block, tell_audit, tell_balance};
-use crate::node::Node;
+use crate::acts::{
+    check_block, commit_block, feed_price, place_order, tell_audit, tell_balance, tell_best,
+    tell_filled, tell_speculative,
+};
+use crate::proposed::{propose_refusal, proposed};
 use crate::slots::Slots;
-use dx_print::{Answer, Reply, Word};
+use crate::words::word_of;
+use dx_node::Node;
+use dx_print::{Answer, Reply};
 use dx_scenario::Event;
-use dx_types::{Genesis, List, NoMemory, SubaccountId};
+use dx_types::{Genesis, List, NoMemory, Order, OrderId, SubaccountId};
 use std::alloc::Global;
 
 /// The nodes by number, and the slots for blocks.
 #[derive(Drop)]
 pub struct Cluster {
+    /// From 1 to 16 nodes, by number.
     pub nodes: Vec<Node>,
+    /// The blocks in the slots 0 to 255.
     pub slots: Slots,
     ghost some: { 0 < length nodes.items },
     ghost few: { length nodes.items ≤ 16 },
@@ -24,19 +31,20 @@ impl Cluster {
     ghost use Rattle.std.specs.FinMap.{get};
     ghost use Rattle.dx_spec.specs.Genesis.{IsNatFrom, IsGenesis};
     ghost use Rattle.dx_scenario.specs.Events.{IsOf};
-    ghost use Rattle.dx_print.specs.declared.answer.Answer.TheVariants as answers;
     ghost use Rattle.dx_cluster.specs.Built.{unbuilt_place};
-    ghost use Rattle.dx_cluster.specs.World.{World, world_of, heights, act_at, check_slot, commit_slot, tell_balance, tell_audit, step, Stands, HasActed, IsDone};
+    ghost use Rattle.dx_cluster.specs.Acts.{place_order, feed_price, check_slot, commit_slot, tell_balance, tell_speculative, tell_filled, tell_best, tell_audit};
+    ghost use Rattle.dx_cluster.specs.World.{World, world_of, heights, act_at, propose_at, acted, step, Stands, HasActed, IsDone};
 
-    /// From 1 to 16 nodes of one genesis, and no slot filled. `NoMemory` where there is none for them.
+    /// From 1 to 16 nodes of one genesis, numbered from 0, and no slot filled ("Genesis line" in
+    /// docs/FORMAT.md). `NoMemory` where there is none for them.
     pub fn new(alloc: Global, count: u32, genesis: &Genesis) -> Result<Cluster, NoMemory>
         requires count { IsNatFrom 1 16 count }
         requires genesis { IsGenesis genesis.now }
         ensures { IfOk result (λ cluster. Stands cluster (world_of count genesis.now)) }
     {
         let mut nodes = Vec::new(alloc);
-        'nodes: for i in 0..count {
-            nodes.push(Node::new(alloc, genesis)?)?;
+        'nodes: for number in 0..count {
+            nodes.push(Node::new(alloc, genesis, number)?)?;
         }
         Ok(Cluster {
             nodes,
@@ -62,16 +70,51 @@ impl Cluster {
         Ok(Answer::Heights(List::from_vec(numbers)))
     }
 
+    /// A node takes an order.
+    fn place(&mut self, node: u32, order: &Order) -> Result<Answer, NoMemory>
+        requires { node < length self.old.nodes.items }
+        ensures { IfOk result (λ answer. (w : World) → Stands self.old w
+            → HasActed (act_at w node (place_order order.now)) self.new answer) }
+    {
+        place_order(&mut self.nodes[node as usize], order)
+    }
+
+    /// A node is fed a price.
+    fn feed(&mut self, node: u32, market: u32, price: u64) -> Answer
+        requires { node < length self.old.nodes.items }
+        ensures { (w : World) → Stands self.old w
+            → HasActed (act_at w node (feed_price market price)) self.new result }
+    {
+        feed_price(&mut self.nodes[node as usize], market, price)
+    }
+
+    /// A node makes a block and puts it into a slot.
+    fn propose(&mut self, node: u32, slot: u32, time: u32) -> Result<Answer, NoMemory>
+        requires { node < length self.old.nodes.items }
+        ensures { IfOk result (λ answer. (w : World) → Stands self.old w
+            → HasActed (propose_at w node slot time) self.new answer) }
+    {
+        match self.nodes[node as usize].propose(time) {
+            Ok(proposal) => {
+                let answer = proposed(&proposal);
+                self.slots.fill(slot, proposal)?;
+                Ok(answer)
+            }
+            Err(fault) => propose_refusal(fault),
+        }
+    }
+
     /// A node tests the block of a slot.
     fn check(&mut self, node: u32, slot: u32) -> Result<Answer, NoMemory>
         requires { node < length self.old.nodes.items }
         ensures { IfOk result (λ answer. (w : World) → Stands self.old w
             → HasActed (act_at w node (check_slot (get w.slots slot))) self.new answer) }
     {
+        let alloc = *self.nodes.allocator();
         let Some(block) = self.slots.block(slot) else {
             return Ok(Answer::Empty);
         };
-        check_block(&mut self.nodes[node as usize], block)
+        check_block(alloc, &mut self.nodes[node as usize], block)
     }
 
     /// A node commits the block of a slot.
@@ -94,6 +137,30 @@ impl Cluster {
         tell_balance(&self.nodes[node as usize], who)
     }
 
+    /// A node tells an account's balance after its queue.
+    fn speculative(&self, node: u32, who: SubaccountId) -> Answer
+        requires { node < length self.now.nodes.items }
+        ensures { (w : World) → Stands self.now w → HasActed (act_at w node (tell_speculative who)) self.now result }
+    {
+        tell_speculative(&self.nodes[node as usize], who)
+    }
+
+    /// A node tells how much of an order is filled.
+    fn filled(&self, node: u32, id: &OrderId) -> Answer
+        requires { node < length self.now.nodes.items }
+        ensures { (w : World) → Stands self.now w → HasActed (act_at w node (tell_filled id.now)) self.now result }
+    {
+        tell_filled(&self.nodes[node as usize], id)
+    }
+
+    /// A node tells the best orders of a market.
+    fn best(&self, node: u32, market: u32) -> Answer
+        requires { node < length self.now.nodes.items }
+        ensures { (w : World) → Stands self.now w → HasActed (act_at w node (tell_best market)) self.now result }
+    {
+        tell_best(&self.nodes[node as usize], market)
+    }
+
     /// A node tells the numbers of its committed state.
     fn audit(&self, node: u32) -> Answer
         requires { node < length self.now.nodes.items }
@@ -102,63 +169,52 @@ impl Cluster {
         tell_audit(&self.nodes[node as usize])
     }
 
+    /// Does what an event asks for, and tells the answer.
+    fn act(&mut self, event: Event) -> Result<Answer, NoMemory>
+        requires of { IsOf (length self.old.nodes.items) event }
+        requires built { unbuilt_place event ≡ None }
+        ensures { IfOk result (λ answer. (w : World) → Stands self.old w → HasActed (acted w event) self.new answer) }
+    {
+        match event {
+            Event::Handed { slot, block } => {
+                self.slots.fill(slot, block)?;
+                Ok(Answer::Done(None))
+            }
+            Event::Place { node, order } => self.place(node, &order),
+            Event::Feed {
+                node,
+                market,
+                price,
+            } => Ok(self.feed(node, market, price)),
+            Event::Propose { node, slot, time } => self.propose(node, slot, time),
+            Event::Check { node, slot } => self.check(node, slot),
+            Event::Commit { node, slot } => self.commit(node, slot),
+            Event::Balance { node, who } => Ok(self.balance(node, who)),
+            Event::Spec { node, who } => Ok(self.speculative(node, who)),
+            Event::Filled { node, id } => Ok(self.filled(node, &id)),
+            Event::Best { node, market } => Ok(self.best(node, market)),
+            Event::Audit { node } => Ok(self.audit(node)),
+            Event::Cancel { .. }
+            | Event::CancelAll { .. }
+            | Event::Message { .. }
+            | Event::Sweep { .. }
+            | Event::Show { .. }
+            | Event::Digest { .. }
+            | Event::Restart { .. } => unreachable!(),
+        }
+    }
+
     /// Executes an event of which all is built, and tells the reply ("Events" in docs/FORMAT.md).
     ///
-    /// `NoMemory` where there is none for the block that it keeps, tests or applies, or for the answer.
+    /// `NoMemory` where there is none for what it keeps, tests or applies, or for the answer. Of the cluster
+    /// nothing is promised then: the run ends.
     pub fn serve(&mut self, event: Event) -> Result<Reply, NoMemory>
         requires of { IsOf (length self.old.nodes.items) event }
         requires built { unbuilt_place event ≡ None }
         ensures { IfOk result (λ reply. (w : World) → Stands self.old w → IsDone (step w event) self.new reply) }
     {
-        match event {
-            Event::Handed { slot, block } => {
-                self.slots.fill(slot, block)?;
-                Ok(Reply {
-                    word: Word::Block,
-                    answer: Answer::Done(None),
-                })
-            }
-            Event::Check { node, slot } => {
-                let answer = self.check(node, slot)?;
-                Ok(Reply {
-                    word: Word::Check,
-                    answer,
-                })
-            }
-            Event::Commit { node, slot } => {
-                let answer = self.commit(node, slot)?;
-                Ok(Reply {
-                    word: Word::Commit,
-                    answer,
-                })
-            }
-            Event::Balance { node, who } => {
-                let answer = self.balance(node, who);
-                Ok(Reply {
-                    word: Word::Balance,
-                    answer,
-                })
-            }
-            Event::Audit { node } => {
-                let answer = self.audit(node);
-                Ok(Reply {
-                    word: Word::Audit,
-                    answer,
-                })
-            }
-            Event::Place { .. }
-            | Event::Cancel { .. }
-            | Event::CancelAll { .. }
-            | Event::Message { .. }
-            | Event::Feed { .. }
-            | Event::Sweep { .. }
-            | Event::Propose { .. }
-            | Event::Show { .. }
-            | Event::Spec { .. }
-            | Event::Filled { .. }
-            | Event::Best { .. }
-            | Event::Digest { .. }
-            | Event::Restart { .. } => unreachable!(),
-        }
+        let word = word_of(&event);
+        let answer = self.act(event)?;
+        Ok(Reply { word, answer })
     }
 }

@@ -1,16 +1,34 @@
 //! The laws on the worlds that a scenario reaches.
 
-ghost use Rattle.dx_cluster.specs.Laws.{FoldsStayGood, StatesBalance};
+ghost use Rattle.dx_cluster.specs.Laws.{CommittedRepliesAgree, FoldsStayGood, OnlyCommitsCount, ProposalsAreGood, StatesBalance};
 
-/// The blocks of each node are good in every world that a scenario reaches: the state from which the
-/// committed replies are taken is always the plain fold of the node's committed blocks, never what the
-/// definition says of blocks that are bad.
+/// The committed state of each node is the plain fold of its blocks in every world that a scenario reaches,
+/// and all of them are good: the committed replies never come from what the definition says of bad blocks.
 pub fn folds_stay_good()
     ensures { FoldsStayGood }
+{}
+
+/// The committed states after an event come from those before it and the blocks in the slots alone: a good
+/// commit applies the block of its slot at its node, and nothing else changes any. So what a node has placed,
+/// matched or been fed comes into its committed replies only by a block that is committed to it.
+pub fn only_commits_count()
+    ensures { OnlyCommitsCount }
+{}
+
+/// Two worlds with the same committed states and the same blocks in their slots give the same replies to
+/// `block`, `check`, `commit`, `balance` and `audit`, and are alike after them, whatever their nodes have placed,
+/// matched or been fed.
+pub fn committed_replies_agree()
+    ensures { CommittedRepliesAgree }
 {}
 
 /// Each committed state of a run is balanced and sound, and the numbers of its audit balance: so in every
 /// world that events lead to from nodes of a genesis in its ranges.
 pub fn states_balance()
     ensures { StatesBalance }
+{}
+
+/// In each of these worlds what a node proposes is good on its committed state.
+pub fn proposals_are_good()
+    ensures { ProposalsAreGood }
 {}

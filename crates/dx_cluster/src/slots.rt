@@ -18,11 +18,11 @@ pub struct Slots {
 impl Model for Slots {
     ghost use Rattle.std.specs.Ordering.{nat_cmp};
     ghost use Rattle.dx_maps.specs.Tables.{map_of};
-    ghost use Rattle.dx_cluster.specs.Held.{Held, coded_held, AllBuilt};
+    ghost use Rattle.dx_cluster.specs.Stored.{Stored, coded_stored, AllBuilt};
 
-    ghost Value = { Held };
+    ghost Value = { Stored };
 
-    ghost coded = { coded_held };
+    ghost coded = { coded_stored };
 
     ghost view = { λ s. map_of nat_cmp s.blocks };
 

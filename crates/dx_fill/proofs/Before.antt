@@ -1,27 +1,26 @@
 -- What the tests of two orders say, and what is so once both accounts are settled.
-use Rattle.std.proofs.Common.{◌≡◌, ℕ, ◌+◌, ◌^◌, ◌<◌, ◌≤◌, ◌%◌, Bool, true, false, not, ◌&&◌, ◌||◌, ◌==◌, Option, Some, None, option_map, refl, sym, ap, subst, ◌∙◌, arith, slice_get, Ok, nat_lt, IsTrue, OnOk, Result, Err}
-use Rattle.std.proofs.lemmas.Bool.{and_parts, or_parts, eqb-true, ltb-false, ltb-true, leb-true, ne_eqb, eqb-false}
+use Rattle.std.proofs.Common.{◌≡◌, ℕ, ◌+◌, ◌^◌, ◌<◌, ◌≤◌, ◌%◌, Bool, true, false, not, ◌&&◌, ◌||◌, ◌==◌, Option, Some, None, option_map, refl, sym, ap, ◌∙◌, arith, slice_get, Ok, nat_lt}
+use Rattle.std.proofs.lemmas.Bool.{and_parts, or_parts, ltb-false, ltb-true, ne_eqb}
 use Rattle.std.proofs.lemmas.Option.{slice_get-map}
 use Rattle.std.specs.Option.{option_map_or}
-use Rattle.std.specs.FinMap.{get}
 use Rattle.dx_types.specs.declared.Order.{Order}
 use Rattle.dx_types.specs.declared.MarketInfo.{MarketInfo}
 use Rattle.dx_types.specs.declared.Params.{Params}
 use Rattle.dx_types.specs.declared.MarketParams.{MarketParams}
 use Rattle.dx_types.specs.declared.Genesis.{Genesis}
-use Rattle.dx_spec.specs.Codes.{bad_role, other_market, same_side, self_trade, not_crossed, overfilled}
+use Rattle.dx_spec.specs.Codes.{bad_role, other_market, same_side, self_trade, overfilled}
 use Rattle.dx_spec.specs.Refusals.{bad_order, too_far, expired}
 use Rattle.dx_spec.specs.State.{State, is_same_account, is_short_term, is_long_term, is_kept, filled_of, account_of}
 use Rattle.dx_spec.specs.Bounds.{is_size, order_window}
 use Rattle.dx_spec.specs.Accounts.{settle_step}
-use Rattle.dx_spec.specs.Orders.{is_ioc, is_amount_of, is_subticks_of, fits_market, check_form, is_good_stateful, is_same_side, crosses}
+use Rattle.dx_spec.specs.Orders.{is_ioc, is_amount_of, is_subticks_of, fits_market, check_form, is_good_stateful, is_same_side}
 use Rattle.dx_spec.specs.Fills.{overfills, check_pair, market_for, check_fill, fill_step}
 use Rattle.dx_spec.proofs.Steps.{true_from_not}
 use Rattle.dx_spec.proofs.Parts.{pair_market, pair_sides}
 use Rattle.dx_laws.proofs.Indices.{IsAtIndex-settle_step, IsAtIndex-settle_other}
 use Rattle.dx_sound.specs.Within.{SoundWithin, IsFillable, StepKeeps}
-use Rattle.dx_sound.proofs.Scripts.{passes, unit_passes, stage_passes}
-use Rattle.dx_sound.proofs.Trades.{option_cases, amount_parts}
+use Rattle.dx_spec.proofs.Scripts.{passes, unit_passes, stage_passes}
+use Rattle.dx_sound.proofs.Trades.{amount_parts}
 use Rattle.dx_sound.proofs.Fills.{MarketFor, markets_for, left_after}
 use Rattle.dx_sound.proofs.Settlement.{filled-settle_step}
 use Rattle.dx_sound.proofs.Midway.{SoundWithin-settle_step, SoundWithin-fill_step}

@@ -1,5 +1,5 @@
 -- What the stages of a fill answer, put together.
-use Rattle.std.proofs.Common.{◌≡◌, ◌≢◌, ◌↔◌, ℕ, ◌^◌, ◌≤◌, ◌<◌, Bool, true, false, cond, not, ◌&&◌, ℤ, pos, negsuc, ◌+ℤ◌, ◌-ℤ◌, ◌*ℤ◌, ◌≤ℤ◌, ◌<ℤ◌, unsigned_abs, Option, Some, None, Result, Ok, Err, ok_or, refl, sym, ap, subst, ◌∙◌, arith, slice_get, IfOk, IfErr, OnOk}
+use Rattle.std.proofs.Common.{◌≡◌, ◌≢◌, ◌↔◌, ℕ, ◌^◌, ◌≤◌, ◌<◌, Bool, true, false, cond, not, ◌&&◌, ℤ, pos, negsuc, ◌+ℤ◌, ◌-ℤ◌, ◌*ℤ◌, ◌≤ℤ◌, ◌<ℤ◌, unsigned_abs, Option, Some, None, Result, Ok, Err, ok_or, refl, sym, ap, subst, ◌∙◌, arith, slice_get, IfOk}
 use Rattle.std.proofs.lemmas.Int.{ints}
 use Rattle.std.proofs.lemmas.Bool.Decides.{nat_tests}
 use Rattle.std.specs.Option.{option_map_or}
@@ -18,7 +18,7 @@ use Rattle.dx_spec.specs.State.{State}
 use Rattle.dx_spec.specs.Margin.{quote}
 use Rattle.dx_spec.specs.Bounds.{is_fund, is_worth, is_open_interest}
 use Rattle.dx_spec.specs.Fees.{charge, with_charge}
-use Rattle.dx_spec.specs.Fills.{signed, fill_side, keeps_bounds, make_fill, fill_step}
+use Rattle.dx_spec.specs.Fills.{signed, fill_side, keeps_bounds, make_fill}
 use Rattle.dx_spec.specs.Balance.{Balanced}
 use Rattle.dx_spec.proofs.Parts.{fill_side_is, side_quote}
 use Rattle.dx_laws.proofs.Trading.{trade-funds}

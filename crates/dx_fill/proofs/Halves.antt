@@ -1,57 +1,44 @@
 -- What is so after the first side of a fill, and after both.
-use Rattle.std.proofs.Common.{◌≡◌, ℕ, ◌+◌, ◌-◌, ◌*◌, ◌^◌, ◌<◌, ◌≤◌, Bool, true, false, cond, not, ◌&&◌, ◌==◌, ℤ, pos, negsuc, ◌+ℤ◌, ◌-ℤ◌, ◌*ℤ◌, ◌≤ℤ◌, ◌<ℤ◌, unsigned_abs, List, map, Option, Some, None, option_map, refl, sym, ap, subst, ◌∙◌, arith, slice_get, Ok, IfSome, IsTrue}
+use Rattle.std.proofs.Common.{◌≡◌, ℕ, ◌+◌, ◌-◌, ◌^◌, ◌<◌, ◌≤◌, true, cond, not, ◌==◌, ℤ, pos, negsuc, ◌+ℤ◌, ◌-ℤ◌, ◌*ℤ◌, ◌≤ℤ◌, ◌<ℤ◌, unsigned_abs, Option, Some, None, option_map, refl, sym, ap, subst, ◌∙◌, arith, slice_get, IfSome}
 use Rattle.std.proofs.lemmas.Int.{ints}
-use Rattle.std.proofs.lemmas.Bool.{cond-false, eqb-false, lt-ltb, ltb-true, and_parts}
+use Rattle.std.proofs.lemmas.Bool.{eqb-false}
 use Rattle.std.proofs.lemmas.Bool.Decides.{nat_tests}
 use Rattle.std.proofs.lemmas.Option.{none-some, slice_get-map}
-use Rattle.std.specs.Option.{option_map_or}
-use Rattle.std.specs.FinMap.{get, get-insert}
-use Rattle.std.specs.declared.cmp.Ordering.{Ordering}
-use Rattle.std.specs.declared.cmp.Ordering.TheVariants.{Less, Equal, Greater}
-use Rattle.std.specs.Ordering.{eq_by_cmp, is_eq, ordering_then}
-use Rattle.dx_types.specs.Keys.{subaccount_cmp, order_id_cmp, order_id_total}
 use Rattle.dx_types.specs.declared.SubaccountId.{SubaccountId}
-use Rattle.dx_types.specs.declared.OrderId.{OrderId}
 use Rattle.dx_types.specs.declared.Order.{Order}
 use Rattle.dx_types.specs.declared.MarketInfo.{MarketInfo}
-use Rattle.dx_types.specs.declared.Genesis.{Genesis}
 use Rattle.dx_types.specs.declared.MarketParams.{MarketParams}
 use Rattle.dx_num.specs.Rounding.{million}
 use Rattle.dx_spec.specs.Lists.{changed_at}
-use Rattle.dx_spec.specs.State.{State, is_same_account, account_of, size_in, filled_of}
+use Rattle.dx_spec.specs.State.{State, account_of, size_in, filled_of}
 use Rattle.dx_spec.specs.Bounds.{is_fund, is_size, is_price, is_open_interest}
-use Rattle.dx_spec.specs.Margin.{value}
 use Rattle.dx_spec.specs.Fees.{charge}
 use Rattle.dx_spec.specs.Accounts.{long_part}
 use Rattle.dx_spec.specs.Genesis.{IsGenesis, IsMarketParams}
 use Rattle.dx_spec.specs.Balance.{Balanced}
 use Rattle.dx_spec.specs.Fills.{signed, fill_side, keeps_bounds}
-use Rattle.dx_spec.proofs.Parts.{traded, with_oi, traded_state}
+use Rattle.dx_spec.proofs.Parts.{traded, with_oi}
 use Rattle.dx_spec.proofs.Lists.{slice_get-changed_at}
 use Rattle.dx_laws.proofs.Unbalanced.{Off, Off-Balanced}
 use Rattle.dx_laws.proofs.Filling.{Off-fill_side}
 use Rattle.dx_sound.specs.Within.{IsFillable}
-use Rattle.dx_sound.proofs.Holding.{IsAmountIn, IsHeldOrder, Parts, Frame, params_in, Held, StandsWell}
+use Rattle.dx_sound.proofs.Holding.{IsAmountIn, IsHeldOrder, Parts, Frame, params_in, Held}
 use Rattle.dx_sound.proofs.Trades.{amount_parts, trades, mapped_some}
 use Rattle.dx_sound.proofs.Sides.{sides, Held-fill_side}
-use Rattle.dx_sound.proofs.Fills.{opened, closed}
-use Rattle.dx_sound.proofs.Wholes.{own, IsWhole, IsWhole-told}
-use Rattle.dx_sound.proofs.Messages.{told_from}
-use Rattle.dx_sound.proofs.Sounding.{IsWhole-SoundWithin, SoundWithin-IsWhole}
-use Rattle.dx_sound.specs.Within.{SoundWithin}
+use Rattle.dx_sound.proofs.Fills.{opened, closed, other_filled}
+use Rattle.dx_sound.proofs.Wholes.{own, IsWhole}
+use Rattle.dx_sound.proofs.Sounding.{IsWhole-SoundWithin}
 use Rattle.dx_margin.specs.Ranges.{IsMarket}
 use Rattle.dx_accounts.specs.Steady.{IsSteady}
 use Rattle.dx_accounts.proofs.Dusts.{at_number}
 use Rattle.dx_trade.specs.Conditions.{CanTrade, HasFeeRoom, CanFill}
 use Rattle.dx_fill.specs.Conditions.{CanMake, IsSettledIn}
+use Rattle.dx_accounts.proofs.Coverage.{if_known}
+use Rattle.dx_sound.proofs.Midway.{within}
 
 -- the frame of a state
 abbrev pub frame : State → Frame
 frame s = own s (2 ^ 101)
-
-if_known : (P : MarketInfo → Type 0) (o : Option MarketInfo) → ((m : MarketInfo) → o ≡ Some m → P m) → IfSome o P
-if_known P None h = tt
-if_known P (Some m) h = h m refl
 
 whole : (s : State) → IsSteady s → IsWhole (2 ^ 101) s
 whole s h = IsWhole-SoundWithin (2 ^ 101) s h.within
@@ -77,7 +64,7 @@ can_trade f k s who n h e r = record {
   room = if_known (λ m. m.oi < 2 ^ 60) (slice_get s.markets n) (λ m i. r m i);
 }
 
-oi_below : (m : MarketInfo) → is_open_interest m ≡ true → m.oi < 2 ^ 48
+pub oi_below : (m : MarketInfo) → is_open_interest m ≡ true → m.oi < 2 ^ 48
 unfolding is_open_interest
 oi_below m e = grind (arith, nat_tests, e)
 
@@ -152,25 +139,6 @@ held_taken s m taker maker amount whole' ppm u h e =
     (subst (λ k. IsAmountIn (params_in (frame s)) k amount) h.one_market (amount_in s m taker maker amount h)) h.taker_left
     (opened (frame s) taker.id.market s (whole s h.steady).held) e
 
-then_apart : (a b : Ordering) → is_eq a ≡ false → is_eq (ordering_then a b) ≡ false
-then_apart Less b e = refl
-then_apart Equal b e = absurd (let i : true ≡ false = e in cc)
-then_apart Greater b e = refl
-
-ids_apart : (a b : OrderId) → is_same_account a.who b.who ≡ false → eq_by_cmp order_id_cmp a b ≡ false
-ids_apart a b e = then_apart (subaccount_cmp a.who b.who) _ e
-
--- a side fills no other order
-other_filled : (s : State) (o : Order) (amount : ℕ) (whole : ℤ) (ppm : ℕ) (t : State) (id : OrderId) → fill_side s o amount whole ppm ≡ Some t
-    → is_same_account id.who o.id.who ≡ false → filled_of t id ≡ filled_of s id
-other_filled s o amount whole ppm t id e d =
-    let i = sides s o amount whole ppm t e in
-    ap (λ x. option_map_or (λ r. r.amount) x 0) (
-    ap (λ (u : State). get u.filled id) (sym i.is)
-    ∙ get-insert order_id_total i.traded.filled o.id _ id
-    ∙ cond-false (eq_by_cmp order_id_cmp id o.id) _ (get i.traded.filled id) (ids_apart id o.id d)
-    ∙ ap (λ m. get m id) i.filled)
-
 left_taken : (s : State) (m : MarketInfo) (taker maker : Order) (amount : ℕ) (whole' : ℤ) (ppm : ℕ) (u : State) → CanMake s m taker maker amount
     → fill_side s taker amount whole' ppm ≡ Some u → filled_of u maker.id + amount ≤ maker.size
 left_taken s m taker maker amount whole' ppm u h e =
@@ -213,9 +181,6 @@ market_range s m taker maker amount whole' p q u v h e f =
           (ap (λ (y : Parts). slice_get y.genesis.params.markets maker.id.market) (sym d.parts) ∙ held_params (frame s) (Some maker.id.market) v maker.id.market x d i);
       price = let g : is_price x.price ≡ true = (d.markets maker.id.market x i).price in grind (arith, nat_tests, g);
     })
-
-within : (f : Frame) (s : State) → Held f None s → StandsWell f → SoundWithin f.most s
-within f s h w = SoundWithin-IsWhole f.most s (IsWhole-told f f.most s (told_from f f.parts.stateful f.kept f.most s h w))
 
 -- the state after both sides is steady, where it balances
 pub steady_made : (s : State) (m : MarketInfo) (taker maker : Order) (amount : ℕ) (whole' : ℤ) (p q : ℕ) (u v : State) → CanMake s m taker maker amount

@@ -35,7 +35,7 @@ borne_fill s m taker maker amount = do
   refuse maker_risk (not (may (risk_of s maker.id.who) (risk_of after maker.id.who)))
   Ok after
 
--- the fault of a settlement, as that of a fill
+-- the fault of a settlement, as that of a fill; a settlement never lacks a place for an account
 abbrev pub fault_for : TouchFault → OpFault
 fault_for touch.Bound = Code 0 bound
 fault_for touch.Accounts = Code 0 bound

@@ -1,6 +1,6 @@
 //! A fill, from its tests to the risks of both accounts.
 
-ghost use Rattle.std.specs.Prelude.{◌≡◌, ℕ, IfErr, OnOk, OnErr, ok_or};
+ghost use Rattle.std.specs.Prelude.{◌≡◌, ◌≢◌, ℕ, IfErr, OnOk, OnErr, ok_or};
 ghost use Rattle.dx_spec.specs.Codes.{bound};
 ghost use Rattle.dx_spec.specs.Margin.{may as may_change};
 ghost use Rattle.dx_spec.specs.Accounts.{settle_step, risk_of as risk_in};
@@ -25,12 +25,13 @@ use dx_types::{MarketInfo, Order, Risk, SubaccountId};
 /// The fault of a settlement, as that of a fill. Settlement writes kept accounts alone, so that it never
 /// lacks a place for one.
 fn fault_of(fault: TouchFault) -> OpFault
+    requires { fault ≢ TouchFault.Accounts }
     ensures { result ≡ fault_for fault }
 {
     match fault {
         TouchFault::NoMemory => OpFault::NoMemory,
         TouchFault::Bound => OpFault::from(Refusal::Bound),
-        TouchFault::Accounts => OpFault::from(Refusal::Bound),
+        TouchFault::Accounts => unreachable!(),
     }
 }
 

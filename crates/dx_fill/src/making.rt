@@ -14,10 +14,8 @@ ghost use Rattle.dx_fill.specs.Stages.{bounded_quote};
 use dx_ledger::{Ledger, OpFault};
 use dx_margin::quote;
 use dx_trade::{Refusal, fill_side, keeps_bounds};
+use dx_types::limits::WORTH_LIMIT;
 use dx_types::{MarketInfo, MarketParams, Order};
-
-/// A fill's quote stays below this: quote quantums.
-const WORTH_LIMIT: u128 = 1 << 56;
 
 /// A quote, where it keeps the bound of a fill.
 fn bounded(quote: i128) -> Result<i64, Refusal>

@@ -1,15 +1,13 @@
 -- What a fill adds to the filled amounts.
-use Rattle.std.proofs.Common.{◌≡◌, ℕ, suc, ◌+◌, ◌^◌, ◌<◌, ◌≤◌, min, Bool, true, false, cond, not, ◌==◌, ℤ, Some, List, [], ◌∷◌, length, Ok, IsTrue, refl, sym, ap, subst, ◌∙◌, arith, lit<}
+use Rattle.std.proofs.Common.{◌≡◌, ℕ, suc, ◌+◌, ◌^◌, ◌<◌, ◌≤◌, min, true, false, not, ◌==◌, ℤ, Some, List, [], ◌∷◌, length, Ok, IsTrue, refl, sym, ap, subst, ◌∙◌, arith, lit<}
 use Prim.Native.Nat.{zero}
 use Rattle.std.specs.Prelude.{slice_get, IfSome}
-use Rattle.std.proofs.lemmas.Bool.{cond-false, ltb-true}
+use Rattle.std.proofs.lemmas.Bool.{ltb-true}
 use Rattle.std.specs.Option.{option_map_or}
 use Rattle.std.specs.FinMap.{get, get-insert}
 use Rattle.std.specs.Cmp.{eq_by_cmp_equiv}
-use Rattle.std.specs.declared.cmp.Ordering.{Ordering}
-use Rattle.std.specs.declared.cmp.Ordering.TheVariants.{Less, Equal, Greater}
-use Rattle.std.specs.Ordering.{eq_by_cmp, is_eq, ordering_then}
-use Rattle.dx_types.specs.Keys.{subaccount_cmp, order_id_cmp, order_id_total, subaccount_total}
+use Rattle.std.specs.Ordering.{eq_by_cmp}
+use Rattle.dx_types.specs.Keys.{order_id_cmp, order_id_total, subaccount_total}
 use Rattle.dx_types.specs.declared.OrderId.{OrderId}
 use Rattle.dx_types.specs.declared.Order.{Order}
 use Rattle.dx_types.specs.declared.MarketInfo.{MarketInfo}
@@ -21,21 +19,15 @@ use Rattle.dx_spec.specs.Orders.{is_ioc, is_amount_of, is_same_side}
 use Rattle.dx_spec.specs.Fills.{fill_side, check_pair, fill_step}
 use Rattle.dx_spec.proofs.Parts.{check_fill_is, make_fill_is, fill_step_is}
 use Rattle.dx_node_spec.specs.Book.{left}
-use Rattle.dx_sound.proofs.Scripts.{passes}
+use Rattle.dx_spec.proofs.Scripts.{passes}
 use Rattle.dx_sound.proofs.Settlement.{filled-settle_step}
 use Rattle.dx_sound.proofs.Sides.{sides}
 use Rattle.dx_sound.proofs.Trades.{option_cases, amount_parts}
 use Rattle.dx_accounts.specs.Steady.{IsSteady}
 use Rattle.dx_fill.specs.Conditions.{IsTradable}
 use Rattle.dx_fill.proofs.Before.{tradable_fillable}
-
-then_apart : (a b : Ordering) → is_eq a ≡ false → is_eq (ordering_then a b) ≡ false
-then_apart Less b e = refl
-then_apart Equal b e = absurd (let i : true ≡ false = e in cc)
-then_apart Greater b e = refl
-
-ids_apart : (a b : OrderId) → is_same_account a.who b.who ≡ false → eq_by_cmp order_id_cmp a b ≡ false
-ids_apart a b e = then_apart (subaccount_cmp a.who b.who) _ e
+use Rattle.dx_sound.proofs.Fills.{other_filled}
+use Rattle.dx_match.proofs.Trying.{at_true}
 
 accounts_apart : (taker maker : Order) → check_pair taker maker ≡ Ok tt → is_same_account taker.id.who maker.id.who ≡ false
 unfolding check_pair
@@ -49,10 +41,6 @@ accounts_apart taker maker e =
     swapped : (a b : OrderId) → is_same_account a.who b.who ≡ is_same_account b.who a.who
     swapped a b = (eq_by_cmp_equiv subaccount_total).symm a.who b.who
 
-at_true : {X : Type 0} (b : Bool) (x y : X) → b ≡ true → cond b x y ≡ x
-at_true true x y e = refl
-at_true false x y e = absurd (cc)
-
 -- a side fills its own order
 own_filled : (s : State) (o : Order) (amount : ℕ) (whole : ℤ) (ppm : ℕ) (t : State) → fill_side s o amount whole ppm ≡ Some t → filled_of t o.id ≡ filled_of s o.id + amount
 own_filled s o amount whole ppm t e =
@@ -62,17 +50,6 @@ own_filled s o amount whole ppm t e =
     ∙ get-insert order_id_total i.traded.filled o.id _ o.id
     ∙ at_true (eq_by_cmp order_id_cmp o.id o.id) _ (get i.traded.filled o.id) ((eq_by_cmp_equiv order_id_total).refl o.id))
     ∙ ap (λ m. option_map_or (λ r. r.amount) (get m o.id) 0 + amount) i.filled
-
--- and no other
-other_filled : (s : State) (o : Order) (amount : ℕ) (whole : ℤ) (ppm : ℕ) (t : State) (id : OrderId) → fill_side s o amount whole ppm ≡ Some t
-    → is_same_account id.who o.id.who ≡ false → filled_of t id ≡ filled_of s id
-other_filled s o amount whole ppm t id e d =
-    let i = sides s o amount whole ppm t e in
-    ap (λ x. option_map_or (λ r. r.amount) x 0) (
-    ap (λ (u : State). get u.filled id) (sym i.is)
-    ∙ get-insert order_id_total i.traded.filled o.id _ id
-    ∙ cond-false (eq_by_cmp order_id_cmp id o.id) _ (get i.traded.filled id) (ids_apart id o.id d)
-    ∙ ap (λ m. get m id) i.filled)
 
 -- a fill fills the taker by its amount
 filled_after : (s : State) (taker maker : Order) (amount : ℕ) (t : State) → fill_step s taker maker amount ≡ Ok t → filled_of t taker.id ≡ filled_of s taker.id + amount

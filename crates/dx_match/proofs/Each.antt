@@ -3,38 +3,11 @@ use Rattle.std.proofs.Common.{◌≡◌, ℕ, suc, Bool, true, false, cond, Some
 use Prim.Native.Nat.{zero}
 use Rattle.std.specs.Prelude.{find, slice_get}
 use Rattle.std.specs.List.{AllByRecursion}
-use Rattle.dx_spec.specs.Lists.{put_by, sorted_by}
-
--- what follows from it holds of each too
-pub all_weaker : {X : Type 0} (P Q : X → Type 0) → ((x : X) → P x → Q x) → (xs : List X) → AllByRecursion P xs → AllByRecursion Q xs
-all_weaker P Q f [] h = tt
-all_weaker P Q f (x ∷ xs) h = (f x h.0, all_weaker P Q f xs h.1)
-
-pub all_filter : {X : Type 0} (P : X → Type 0) (test : X → Bool) (xs : List X) → AllByRecursion P xs → AllByRecursion P (filter test xs)
-all_filter P test [] h = tt
-all_filter P test (x ∷ xs) h = elim (test x) as (λ b. AllByRecursion P (cond b (x ∷ filter test xs) (filter test xs))) [ true ↦ (h.0, all_filter P test xs h.1) | false ↦ all_filter P test xs h.1 ]
-
--- what a filter leaves passes
-pub all_pass : {X : Type 0} (test : X → Bool) (xs : List X) → AllByRecursion (λ x. test x ≡ true) (filter test xs)
-all_pass test [] = tt
-all_pass test (x ∷ xs) = go (test x) refl (all_pass test xs)
-  where
-    go : (b : Bool) → test x ≡ b → AllByRecursion (λ y. test y ≡ true) (filter test xs) → AllByRecursion (λ y. test y ≡ true) (cond b (x ∷ filter test xs) (filter test xs))
-    go true e more = (e, more)
-    go false e more = more
 
 -- nothing passes where none does
 pub none_pass : {X : Type 0} (test : X → Bool) (xs : List X) → AllByRecursion (λ x. test x ≡ false) xs → filter test xs ≡ []
 none_pass test [] h = refl
 none_pass test (x ∷ xs) h = rw h.0 (none_pass test xs h.1)
-
-pub all_put : {X : Type 0} (P : X → Type 0) (lt : X → X → Bool) (x : X) (ys : List X) → P x → AllByRecursion P ys → AllByRecursion P (put_by lt x ys)
-all_put P lt x [] h all = (h, tt)
-all_put P lt x (y ∷ ys) h all = elim (lt y x) as (λ b. AllByRecursion P (cond b (y ∷ put_by lt x ys) (x ∷ y ∷ ys))) [ true ↦ (all.0, all_put P lt x ys h all.1) | false ↦ (h, all) ]
-
-pub all_sorted : {X : Type 0} (P : X → Type 0) (lt : X → X → Bool) (xs : List X) → AllByRecursion P xs → AllByRecursion P (sorted_by lt xs)
-all_sorted P lt [] h = tt
-all_sorted P lt (x ∷ xs) h = all_put P lt x (sorted_by lt xs) h.0 (all_sorted P lt xs h.1)
 
 -- what holds of each holds of the one at a place
 pub each_at : {X : Type 0} (P : X → Type 0) (xs : List X) (k : ℕ) (x : X) → AllByRecursion P xs → slice_get xs k ≡ Some x → P x

@@ -1,5 +1,5 @@
 -- The side of a book that an order looks at: from one maker to the next, and where no more cross.
-use Rattle.std.proofs.Common.{◌≡◌, ℕ, suc, ◌+◌, ◌≤◌, Bool, true, false, not, ◌&&◌, ◌==◌, cond, Option, None, Some, List, [], ◌∷◌, filter, drop, length, refl, sym, ap, ◌∙◌, subst, arith, nat_lt, nat_le}
+use Rattle.std.proofs.Common.{◌≡◌, ℕ, suc, ◌+◌, ◌≤◌, Bool, true, false, not, ◌==◌, cond, Option, None, Some, List, [], ◌∷◌, filter, drop, length, refl, sym, ap, ◌∙◌, subst, arith, nat_lt, nat_le}
 use Prim.Native.Nat.{zero}
 use Rattle.std.specs.Prelude.{slice_get, IfSome}
 use Rattle.std.specs.List.{AllByRecursion}
@@ -11,42 +11,23 @@ use Rattle.std.proofs.lemmas.List.Sorted.{IsStrictWeakOrder-flip, IsStrictWeakOr
 use Rattle.dx_types.specs.Keys.{order_id_total}
 use Rattle.dx_types.specs.declared.OrderId.{OrderId}
 use Rattle.dx_types.specs.declared.Order.{Order}
-use Rattle.dx_spec.specs.Lists.{put_by, sorted_by}
+use Rattle.dx_spec.specs.Lists.{sorted_by}
 use Rattle.dx_spec.specs.Orders.{is_same_id, is_same_side, crosses}
-use Rattle.dx_node_spec.specs.Book.{is_better, is_on_side, side_of, best, makers_of, without, resting}
+use Rattle.dx_node_spec.specs.Book.{is_better, is_on_side, side_of, best, makers_of, without, resting, HasOnePerId}
 use Rattle.dx_book.specs.Picks.{before}
 use Rattle.dx_book.specs.Ways.{behind, has_id, next_of}
-use Rattle.dx_book.specs.Held.{Held, HasOnePerId, named, order_at}
+use Rattle.dx_book.specs.Held.{Held, named, order_at}
 use Rattle.dx_book.specs.declared.key.OrderKey.{OrderKey}
 use Rattle.dx_match.specs.Stages.{opposite, takable}
-use Rattle.dx_match.proofs.Each.{all_weaker, all_filter, all_pass, none_pass, all_sorted, each_at, from_place, first_behind, filter_swap}
+use Rattle.dx_match.proofs.Each.{none_pass, each_at, from_place, first_behind, filter_swap}
 use Rattle.dx_match.proofs.Sorted.{sorted_in_order, none_behind, filter_sorted, length_sorted, filter_shorter}
+use Rattle.dx_spec.proofs.Each.{all_weaker, all_filter, all_pass, all_sorted}
+use Rattle.dx_node_spec.proofs.Ids.{one_per_id-filter, one_per_id-sorted, swapped_ids}
+use Rattle.dx_book.proofs.Sides.{same_side, side_same}
 
 before_order : (buy : Bool) → IsStrictWeakOrder (before buy)
 before_order true = IsStrictWeakOrder-flip _ (IsStrictWeakOrder-by_number (λ o. o.subticks))
 before_order false = IsStrictWeakOrder-by_number (λ o. o.subticks)
-
-same_side : (a b c : Bool) → a && is_same_side b c ≡ true → c ≡ b
-same_side true true c e = e
-same_side true false true e = cc
-same_side true false false e = refl
-same_side false b c e = cc
-
--- on one side the better of two orders comes before the other
-put_same : (buy : Bool) (x : Order) (ys : List Order) → AllByRecursion (λ o. o.buy ≡ buy) ys → put_by is_better x ys ≡ put_by (before buy) x ys
-put_same buy x [] h = refl
-put_same buy x (y ∷ ys) h =
-    ap (λ b. cond (before b y x) (y ∷ put_by is_better x ys) (x ∷ y ∷ ys)) h.0
-    ∙ ap (λ l. cond (before buy y x) (y ∷ l) (x ∷ y ∷ ys)) (put_same buy x ys h.1)
-
-sorted_same : (buy : Bool) (xs : List Order) → AllByRecursion (λ o. o.buy ≡ buy) xs → sorted_by is_better xs ≡ sorted_by (before buy) xs
-sorted_same buy [] h = refl
-sorted_same buy (x ∷ xs) h = ap (put_by is_better x) (sorted_same buy xs h.1) ∙ put_same buy x (sorted_by (before buy) xs) (all_sorted _ (before buy) xs h.1)
-
-side_same : (xs : List Order) (market : ℕ) (buy : Bool) → side_of xs market buy ≡ sorted_by (before buy) (filter (is_on_side market buy) xs)
-side_same xs market buy =
-    sorted_same buy (filter (is_on_side market buy) xs)
-    (all_weaker (λ o. is_on_side market buy o ≡ true) (λ o. o.buy ≡ buy) (λ o e. same_side (o.id.market == market) buy o.buy e) (filter (is_on_side market buy) xs) (all_pass (is_on_side market buy) xs))
 
 -- a side without an id is the side of the book without it
 side_without : (xs : List Order) (market : ℕ) (buy : Bool) (id : OrderId) → side_of (without xs id) market buy ≡ without (side_of xs market buy) id
@@ -84,54 +65,13 @@ side_done book o k h =
 same_ids : IsEquivalence is_same_id
 same_ids = eq_by_cmp_equiv order_id_total
 
-swapped_ids : (a b : OrderId) → is_same_id a b ≡ is_same_id b a
-swapped_ids a b = same_ids.symm a b
-
 neither : (b : Bool) (x : Order) (r : Option Order) → cond b (Some x) r ≡ None → (b ≡ false) × (r ≡ None)
 neither true x r e = absurd (cc)
 neither false x r e = (refl, e)
 
-all_other : (id : OrderId) (xs : List Order) → resting xs id ≡ None → AllByRecursion (λ o. is_same_id o.id id ≡ false) xs
+pub all_other : (id : OrderId) (xs : List Order) → resting xs id ≡ None → AllByRecursion (λ o. is_same_id o.id id ≡ false) xs
 all_other id [] e = tt
 all_other id (x ∷ xs) e = let n = neither (is_same_id x.id id) x (resting xs id) e in (n.0, all_other id xs n.1)
-
-resting-filter : (test : Order → Bool) (xs : List Order) (id : OrderId) → resting xs id ≡ None → resting (filter test xs) id ≡ None
-resting-filter test [] id e = refl
-resting-filter test (x ∷ xs) id e = go (test x) (neither (is_same_id x.id id) x (resting xs id) e).0 (resting-filter test xs id (neither (is_same_id x.id id) x (resting xs id) e).1)
-  where
-    go : (b : Bool) → is_same_id x.id id ≡ false → resting (filter test xs) id ≡ None → resting (cond b (x ∷ filter test xs) (filter test xs)) id ≡ None
-    go true n more = rw n more
-    go false n more = more
-
-one_per_id-filter : (test : Order → Bool) (xs : List Order) → HasOnePerId xs → HasOnePerId (filter test xs)
-one_per_id-filter test [] h = tt
-one_per_id-filter test (x ∷ xs) h = elim (test x) as (λ b. HasOnePerId (cond b (x ∷ filter test xs) (filter test xs))) [ true ↦ (resting-filter test xs x.id h.0, one_per_id-filter test xs h.1) | false ↦ one_per_id-filter test xs h.1 ]
-
-resting-put : (lt : Order → Order → Bool) (x : Order) (ys : List Order) (id : OrderId) → is_same_id x.id id ≡ false → resting ys id ≡ None → resting (put_by lt x ys) id ≡ None
-resting-put lt x [] id n e = rw n refl
-resting-put lt x (y ∷ ys) id n e = go (lt y x) (neither (is_same_id y.id id) y (resting ys id) e).0 (resting-put lt x ys id n (neither (is_same_id y.id id) y (resting ys id) e).1)
-  where
-    go : (b : Bool) → is_same_id y.id id ≡ false → resting (put_by lt x ys) id ≡ None → resting (cond b (y ∷ put_by lt x ys) (x ∷ y ∷ ys)) id ≡ None
-    go true m more = rw m more
-    go false m more = rw n e
-
-one_per_id-put : (lt : Order → Order → Bool) (x : Order) (ys : List Order) → resting ys x.id ≡ None → HasOnePerId ys → HasOnePerId (put_by lt x ys)
-one_per_id-put lt x [] n h = (refl, tt)
-one_per_id-put lt x (y ∷ ys) n h = go (lt y x) (neither (is_same_id y.id x.id) y (resting ys x.id) n).0 (one_per_id-put lt x ys (neither (is_same_id y.id x.id) y (resting ys x.id) n).1 h.1)
-  where
-    go : (b : Bool) → is_same_id y.id x.id ≡ false → HasOnePerId (put_by lt x ys) → HasOnePerId (cond b (y ∷ put_by lt x ys) (x ∷ y ∷ ys))
-    go true m more = (resting-put lt x ys y.id (swapped_ids x.id y.id ∙ m) h.0, more)
-    go false m more = (n, h)
-
-resting-sorted : (lt : Order → Order → Bool) (xs : List Order) (id : OrderId) → resting xs id ≡ None → resting (sorted_by lt xs) id ≡ None
-resting-sorted lt [] id e = refl
-resting-sorted lt (x ∷ xs) id e =
-    let n = neither (is_same_id x.id id) x (resting xs id) e in
-    resting-put lt x (sorted_by lt xs) id n.0 (resting-sorted lt xs id n.1)
-
-one_per_id-sorted : (lt : Order → Order → Bool) (xs : List Order) → HasOnePerId xs → HasOnePerId (sorted_by lt xs)
-one_per_id-sorted lt [] h = tt
-one_per_id-sorted lt (x ∷ xs) h = one_per_id-put lt x (sorted_by lt xs) (resting-sorted lt xs x.id h.0) (one_per_id-sorted lt xs h.1)
 
 -- what stands behind the id of the order at a place
 behind_place : (xs : List Order) (k : ℕ) (m : Order) → HasOnePerId xs → slice_get xs k ≡ Some m → behind (has_id m.id) xs ≡ drop (suc k) xs

@@ -5,7 +5,7 @@ use Rattle.std.specs.Prelude.{slice_get}
 use Rattle.std.specs.List.{AllByRecursion}
 use Rattle.std.specs.Cmp.{IsStrictWeakOrder}
 use Rattle.dx_spec.specs.Lists.{put_by, sorted_by}
-use Rattle.dx_match.proofs.Each.{all_weaker, all_filter, all_put}
+use Rattle.dx_spec.proofs.Each.{all_weaker, all_filter, all_put}
 
 module _ {X : Type 0} (lt : X → X → Bool) (o : IsStrictWeakOrder lt) where
   -- nothing in the list comes before x

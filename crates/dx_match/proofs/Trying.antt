@@ -1,9 +1,9 @@
 -- What the tests need: a maker from its tests, and a book with one more.
-use Rattle.std.proofs.Common.{◌≡◌, ℕ, suc, subst, ◌+◌, Bool, true, false, cond, List, [], ◌∷◌, ◌++◌, None, Some, refl, sym, ap, ◌∙◌}
+use Rattle.std.proofs.Common.{◌≡◌, ℕ, suc, subst, ◌+◌, Bool, true, false, cond, List, [], ◌∷◌, ◌++◌, None, Some, refl, sym, ◌∙◌}
 use Prim.Native.Nat.{zero}
 use Rattle.std.specs.Prelude.{slice_get}
 use Rattle.std.proofs.lemmas.List.Elements.{All-append}
-use Rattle.dx_sound.proofs.Lists.{all_at}
+use Rattle.dx_spec.proofs.Places.{all_at}
 use Rattle.std.specs.FinMap.{get, insert, empty, get-insert, get-empty}
 use Rattle.std.specs.Cmp.{eq_by_cmp_equiv}
 use Rattle.dx_types.specs.Keys.{order_id_cmp, order_id_total}
@@ -21,7 +21,7 @@ use Rattle.dx_match.specs.Conditions.{IsMaker, IsBookFor}
 pub settled_steady : (s : State) → IsSettled s → IsSteady s
 settled_steady s h = IsSteady-IsSettled s h
 
-at_true : {X : Type 0} (b : Bool) (x y : X) → b ≡ true → cond b x y ≡ x
+pub at_true : {X : Type 0} (b : Bool) (x y : X) → b ≡ true → cond b x y ≡ x
 at_true true x y e = refl
 at_true false x y e = absurd (cc)
 

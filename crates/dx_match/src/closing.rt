@@ -1,32 +1,21 @@
 //! What the queue gets: Places of the orders of a group of fills, and then the match.
 
-ghost use Rattle.std.specs.Prelude.{◌≡◌, None, Some, [], ◌∷◌, ◌++◌, List as Items, IfOk, OnOk};
+ghost use Rattle.std.specs.Prelude.{◌≡◌, None, Some, ◌∷◌, ◌++◌, List as Items, IfOk, OnOk};
 ghost use Rattle.std.specs.FinMap.{get as order_at};
 ghost use Rattle.dx_types.specs.declared.Order.{Order as AnyOrder};
-ghost use Rattle.dx_spec.specs.State.{State as AnyState, is_short_term as short_term};
+ghost use Rattle.dx_spec.specs.State.{State as AnyState};
 ghost use Rattle.dx_spec.specs.Operations.{Placed};
 ghost use Rattle.dx_node_spec.specs.Queue.{with_placed, placed_by, holds_order, places};
 ghost use Rattle.dx_node_spec.specs.Taking.{fills_of as fills_in_group, makers_in, closed_match, within_limits};
 ghost use Rattle.dx_match.specs.Seen.{group_of, seen, ended};
 ghost use Rattle.dx_match.specs.Stages.{group_ops};
 
-use crate::comparing::{is_same_id, is_same_order};
 use crate::faults::TakeFault;
-use crate::limits::has_too_many;
 use crate::taken::{Filled, Taken, Taking};
-use dx_queue::Queue;
+use dx_orders::{is_same_id, is_same_order};
+use dx_queue::{Queue, has_too_many};
 use dx_types::{Fill, List, NoMemory, Op, Order, OrderId};
 use std::alloc::Global;
-
-/// The flags of a short-term order.
-const SHORT_TERM: u32 = 0;
-
-/// Whether an order ends by a height.
-fn is_short_term(id: &OrderId) -> bool
-    ensures { result ≡ short_term id.now }
-{
-    id.flags == SHORT_TERM
-}
 
 /// The last placed order of an id after an operation, where `found` is the one before it.
 fn placed_after(found: Option<Order>, op: &Op, id: &OrderId) -> Option<Order>
@@ -70,7 +59,7 @@ fn add_place(q: &Queue, ops: &mut List<Op>, o: &Order) -> Result<(), NoMemory>
     ensures { (rest : Items AnyOrder) → OnOk result (ops.new ++ places (placed_by (q.now ++ ops.new)) rest
         ≡ ops.old ++ places (placed_by (q.now ++ ops.old)) (o.now ∷ rest)) }
 {
-    if !is_short_term(&o.id) {
+    if !o.id.is_short_term() {
         return Ok(());
     }
     if is_placed(q, ops.as_slice(), o) {

@@ -6,14 +6,13 @@
 //! it, or a fill is refused. What it comes to is equal to the definition: the operations that the queue gets,
 //! the makers that leave the book, what is filled, and the code that stopped it. The content is as before
 //! where the queue would pass its limits or there is no memory. A balanced and sound content stays so.
+//! [`left`] says what is left of an order.
 //!
 //! The makers are short-term orders: the removal of a stateful maker is not carried out yet.
 #![tactic(auto)]
 
 mod closing;
-mod comparing;
 mod faults;
-mod limits;
 mod matching;
 mod stepping;
 mod taken;
@@ -22,4 +21,5 @@ mod tests;
 
 pub use faults::TakeFault;
 pub use matching::match_order;
+pub use stepping::left;
 pub use taken::Taken;

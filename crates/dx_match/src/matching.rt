@@ -13,12 +13,12 @@ ghost use Rattle.dx_match.specs.Seen.{seen, ended};
 ghost use Rattle.dx_match.specs.Conditions.{IsBookFor, KeepsSteady};
 
 use crate::closing::close;
-use crate::comparing::crosses;
 use crate::faults::TakeFault;
 use crate::stepping::{is_over, take};
 use crate::taken::{Taken, Taking, start};
 use dx_book::Book;
 use dx_ledger::Branch;
+use dx_orders::crosses;
 use dx_queue::Queue;
 use dx_types::{NoMemory, Order};
 use std::alloc::Global;

@@ -3,7 +3,7 @@
 ghost use Rattle.std.specs.Prelude.{◌≡◌, ℕ, ◌+◌, ◌^◌, ◌<◌, ◌≤◌, false, [], ◌∷◌, not, ◌||◌, ◌==◌, List as Items, Result as Answer, IsTrue, OnOk, fold};
 ghost use Rattle.dx_types.specs.declared.Op.{Op as AnyOp};
 ghost use Rattle.dx_types.specs.declared.Order.{Order as AnyOrder};
-ghost use Rattle.dx_spec.specs.State.{State as AnyState, filled_of as filled_in, is_same_account as same_account, is_short_term};
+ghost use Rattle.dx_spec.specs.State.{State as AnyState, filled_of as filled_in, is_short_term};
 ghost use Rattle.dx_spec.specs.Fills.{fill_step};
 ghost use Rattle.dx_node_spec.specs.Book.{left as left_in, without};
 ghost use Rattle.dx_node_spec.specs.Taking.{leaves, with_fill, take_one};
@@ -14,15 +14,15 @@ ghost use Rattle.dx_fill.specs.Conditions.{CanFillBoth};
 ghost use Rattle.dx_match.specs.Conditions.{KeepsSteady};
 ghost use Rattle.dx_match.specs.Stages.{is_over as over, tried, take_maker as taken_from};
 
-use crate::comparing::{is_same_account, is_same_id};
 use crate::taken::{Filled, Taking};
 use dx_fill::fill;
 use dx_ledger::{Branch, Ledger, OpFault};
+use dx_orders::{is_same_account, is_same_id};
 use dx_trade::{Refusal, filled_of};
 use dx_types::{NoMemory, Order};
 
-/// What is left of an order: base quantums.
-pub(crate) fn left<L: Ledger>(l: &L, o: &Order) -> u64
+/// What is left of an order: base quantums ("Book" in docs/RULES.md).
+pub fn left<L: Ledger>(l: &L, o: &Order) -> u64
     ensures { result ≡ left_in (L.content l.now) o.now }
 {
     o.size.saturating_sub(filled_of(l, &o.id))

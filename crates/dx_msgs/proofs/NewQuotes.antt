@@ -1,12 +1,12 @@
 -- Accounts with other quotes.
-use Rattle.std.proofs.Common.{◌≡◌, ℕ, ◌≤◌, Bool, true, false, cond, not, ◌&&◌, ℤ, pos, ◌+ℤ◌, neg_ℤ, Option, Some, None, is_some, unwrap_or, nat_le, Result, Ok, Err, ok_or, refl, sym, ap, ◌∙◌, arith}
+use Rattle.std.proofs.Common.{◌≡◌, ℕ, ◌≤◌, Bool, true, false, cond, not, ◌&&◌, ℤ, pos, ◌+ℤ◌, neg_ℤ, Option, Some, None, is_some, unwrap_or, nat_le, Ok, Err, refl, sym, ap, ◌∙◌, arith}
 use Rattle.std.proofs.lemmas.Bool.Decides.{nat_tests}
 use Rattle.std.specs.Cmp.{eq_by_cmp_equiv}
 use Rattle.std.specs.FinMap.{get, len}
 use Rattle.dx_types.specs.Keys.{subaccount_cmp, subaccount_total, subaccount_exact}
 use Rattle.dx_types.specs.declared.SubaccountId.{SubaccountId}
 use Rattle.dx_types.specs.declared.Account.{Account}
-use Rattle.dx_spec.specs.Step.{◌>>=◌, ◌>>◌, refuse}
+use Rattle.dx_spec.specs.Step.{◌>>◌, refuse}
 use Rattle.dx_spec.specs.Results.{bound, accounts_full, too_risky}
 use Rattle.dx_spec.specs.State.{State, no_account, account_of, is_kept, is_same_account}
 use Rattle.dx_spec.specs.Bounds.{is_balance, most_accounts}
@@ -15,7 +15,8 @@ use Rattle.dx_spec.specs.Accounts.{risk_of}
 use Rattle.dx_spec.specs.Messages.{is_one_too_many, change_quote, may_change}
 use Rattle.dx_spec.proofs.Accounts.{its_account, other_account}
 use Rattle.dx_ledger.specs.Writes.{IsFullFor}
-use Rattle.dx_sound.proofs.Maps.{same_keys, len_same}
+use Rattle.dx_spec.proofs.Entries.{same_keys, len_same}
+use Rattle.dx_spec.proofs.Scripts.{some_next, none_stop, pass}
 use Rattle.dx_msgs.specs.Stages.{with_quote, quoted, new_quote, may_have, put_step, give_step, both_step, added, taken, moved}
 
 full_by : (o : Option Account) (n : ℕ) → o ≡ None → 65536 ≤ n → (not (is_some o) && nat_le 65536 n) ≡ true
@@ -77,19 +78,6 @@ quoted_may s who q = ap (may (risk_of s who)) (quoted_risk s who q)
 -- the other account stays
 pub quoted_other : (s : State) (who other : SubaccountId) (q : ℤ) → is_same_account who other ≡ false → account_of (quoted s who q) other ≡ account_of s other
 quoted_other s who other q d = ap (λ o. unwrap_or o no_account) (other_account s.accounts who other (with_quote s who q) d)
-
--- a step goes on with a value that is there, and past a test that does not hold
-pub some_next : {A B E : Type 0} (o : Option A) (x : A) (code : E) (f : A → Result B E) → o ≡ Some x → (ok_or o code >>= f) ≡ f x
-some_next o x code f e = ap (λ p. ok_or p code >>= f) e
-
-pub none_stop : {A B E : Type 0} (o : Option A) (code : E) (f : A → Result B E) → o ≡ None → (ok_or o code >>= f) ≡ Err code
-none_stop o code f e = ap (λ p. ok_or p code >>= f) e
-
-pub pass : {B E : Type 0} (code : E) (b : Bool) (rest : Result B E) → b ≡ false → (refuse code b >> rest) ≡ rest
-pass code b rest e = ap (λ t. refuse code t >> rest) e
-
-pub stop : {B E : Type 0} (code : E) (b : Bool) (rest : Result B E) → b ≡ true → (refuse code b >> rest) ≡ Err code
-stop code b rest e = ap (λ t. refuse code t >> rest) e
 
 -- an amount is added
 pub added_is : (s : State) (who : SubaccountId) (amount : ℕ) (q : ℤ) → new_quote s who (pos amount) ≡ Some q → added s who amount ≡ put_step s who q

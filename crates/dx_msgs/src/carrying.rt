@@ -232,6 +232,6 @@ pub fn carry_out<L: Ledger>(l: &mut L, time: u32, m: &Msg) -> Result<(), Message
         Msg::Deposit { who, amount } => deposit(l, who, amount),
         Msg::Withdraw { who, amount } => withdraw(l, who, amount),
         Msg::Transfer { from, to, amount } => transfer(l, from, to, amount),
-        Msg::PlaceStateful(_) | Msg::CancelStateful(_) => Err(MessageFault::NoMemory),
+        Msg::PlaceStateful(_) | Msg::CancelStateful(_) => unreachable!(),
     }
 }

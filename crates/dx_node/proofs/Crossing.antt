@@ -1,24 +1,18 @@
 -- Whether an order meets a maker: it does where it crosses the best order of the other side.
-use Rattle.std.proofs.Common.{◌≡◌, Bool, true, false, cond, not, Option, Some, None, List, [], ◌∷◌, filter, drop, refl, sym, ap, ◌∙◌}
+use Rattle.std.proofs.Common.{◌≡◌, Bool, true, false, cond, not, Option, Some, None, List, ◌∷◌, filter, drop, refl, sym, ap, ◌∙◌}
 use Prim.Native.Nat.{zero, suc}
 use Rattle.std.specs.Prelude.{slice_get}
 use Rattle.std.specs.List.{AllByRecursion}
 use Rattle.std.specs.Option.{option_map_or}
-use Rattle.dx_types.specs.declared.OrderId.{OrderId}
 use Rattle.dx_types.specs.declared.Order.{Order}
 use Rattle.dx_spec.specs.Lists.{is_empty}
 use Rattle.dx_spec.specs.Orders.{is_same_id, crosses}
 use Rattle.dx_node_spec.specs.Book.{resting, without, makers_of, is_better, is_on_side}
 use Rattle.dx_match.specs.Stages.{opposite, takable}
 use Rattle.dx_match.proofs.Each.{from_place, each_at}
-use Rattle.dx_match.proofs.Sides.{makers_are, best_is, none_crosses, none_left}
-use Rattle.dx_speculation.proofs.Lists.{neither, all_filter, all_sorted}
+use Rattle.dx_match.proofs.Sides.{makers_are, best_is, none_crosses, none_left, all_other}
 use Rattle.dx_node.specs.Stages.{crosses_best}
-
--- each order of the book has another id
-pub all_other : (id : OrderId) (xs : List Order) → resting xs id ≡ None → AllByRecursion (λ o. is_same_id o.id id ≡ false) xs
-all_other id [] e = tt
-all_other id (x ∷ xs) e = let n = neither (is_same_id x.id id) x (resting xs id) e in (n.0, all_other id xs n.1)
+use Rattle.dx_spec.proofs.Each.{all_filter, all_sorted}
 
 side_other : (book : List Order) (o : Order) → resting book o.id ≡ None → AllByRecursion (λ x. is_same_id x.id o.id ≡ false) (opposite book o)
 unfolding opposite

@@ -25,7 +25,7 @@ use Rattle.dx_operations.specs.declared.faults.BlockFault.{BlockFault}
 use Rattle.dx_operations.specs.Faults.{Refuses}
 use Rattle.dx_rules.specs.Settled.{IsSettled}
 use Rattle.dx_rules.proofs.Blocking.{IsSteady-IsSettled}
-use Rattle.dx_book.specs.Held.{HasOnePerId}
+use Rattle.dx_node_spec.specs.Book.{HasOnePerId}
 use Rattle.dx_node_spec.specs.Queue.{placed_by}
 use Rattle.dx_node_spec.specs.Node.{Node, new_node, next_height, committed, speculative}
 use Rattle.dx_node_spec.specs.Refusals.{unknown_market, bad_price, wrong_time, last_height}
@@ -34,7 +34,7 @@ use Rattle.dx_node_spec.specs.Events.{fed}
 use Rattle.dx_node_spec.specs.Reads.{filled_amounts, best_prices}
 use Rattle.dx_node_spec.specs.Proposals as whole
 use Rattle.dx_speculation.specs.Faithful.{MayRest, IsFaithful, IsGoodBlock, emptied, bare}
-use Rattle.dx_speculation.proofs.Nodes.{faithful_from}
+use Rattle.dx_speculation.proofs.Nodes.{faithful_from, nothing_queued as no_ops}
 use Rattle.dx_speculation.proofs.Proposals.{bare_proposal_is_good}
 use Rattle.dx_node.specs.declared.faults.CommitFault.{CommitFault}
 use Rattle.dx_node.specs.declared.faults.CommitFault.TheVariants as commits
@@ -50,11 +50,6 @@ use Rattle.dx_node.specs.Faults.{CommitRefused, ProposeRefused}
 -- what is kept of a node
 abbrev pub Keeps : Held → Type 0
 Keeps h = IsKept h.committed h.speculative h.queue h.book
-
--- no operations lead nowhere
-no_ops : (s : State) (height : ℕ) → ops_step s height [] ≡ Ok s
-unfolding ops_step
-no_ops s height = refl
 
 -- a node with an empty queue and an empty book
 fresh : (s : State) → IsSettled s → IsKept s s [] []
@@ -243,7 +238,7 @@ bad_is_fed h p market price e f st =
     fed_is h p market price st ∙ ap (λ x. refuse (refusal unknown_market) (not x) >> (refuse (refusal bad_price) (not (is_price price)) >> Ok (record p { feed = insert p.feed market price }))) e
     ∙ ap (λ x. refuse (refusal bad_price) (not x) >> Ok (record p { feed = insert p.feed market price })) f
 
-stand_back : (g h : Held) (p : Node) → g ≡ h → StandsFor h p → StandsFor g p
+pub stand_back : (g h : Held) (p : Node) → g ≡ h → StandsFor h p → StandsFor g p
 stand_back g h p v st = subst (λ (x : Held). StandsFor x p) (sym v) st
 
 -- a price is kept
@@ -291,7 +286,8 @@ proposed_good g h p time b v k e f st = propose_is g p time (Ok tt) k (stand_bac
 bare_good : (p : Node) (time : ℕ) (b x : Block) → IsFaithful p → whole.propose p time ≡ Ok x → ◌≡◌ {A = Result Block Refusal} (Ok (bare x)) (Ok b) → IsGoodBlock (committed p) b
 bare_good p time b x f e i = subst (IsGoodBlock (committed p)) (ok_same (bare x) b i) (bare_proposal_is_good p time x f e)
 
-good_is_proposed : (p : Node) (time : ℕ) (b : Block) → IsFaithful p → propose p time ≡ Ok b → IsGoodBlock (committed p) b
+-- what a faithful node proposes is good
+pub good_is_proposed : (p : Node) (time : ℕ) (b : Block) → IsFaithful p → propose p time ≡ Ok b → IsGoodBlock (committed p) b
 unfolding propose
 good_is_proposed p time b f e = then_result (λ y. IsGoodBlock (committed p) y) (whole.propose p time) (λ y. Ok (bare y)) b e (λ x i j. bare_good p time b x f i j)
 

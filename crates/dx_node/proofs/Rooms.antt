@@ -10,9 +10,9 @@ use Rattle.dx_spec.specs.Orders.{is_same_id}
 use Rattle.dx_node_spec.specs.Book.{resting, without}
 use Rattle.dx_node_spec.specs.Placing.{is_among}
 use Rattle.dx_match.proofs.Sorted.{filter_shorter}
-use Rattle.dx_speculation.proofs.Lists.{all_weaker, all_both}
 use Rattle.dx_node.specs.Stages.{not_gone}
-use Rattle.dx_node.proofs.Crossing.{all_other}
+use Rattle.dx_spec.proofs.Each.{all_weaker, all_both}
+use Rattle.dx_match.proofs.Sides.{all_other}
 
 -- one of the ids is that of an order of the book
 abbrev pub holds_any : List Order → List OrderId → Bool

@@ -5,7 +5,7 @@ use Rattle.std.specs.FinMap.{insert}
 use Rattle.dx_types.specs.declared.Order.{Order}
 use Rattle.dx_spec.specs.Bounds.{is_price}
 use Rattle.dx_spec.proofs.Steps.{ok_same, refuse_then}
-use Rattle.dx_sound.proofs.Scripts.{unit_passes, some_passes, stage_passes}
+use Rattle.dx_spec.proofs.Scripts.{unit_passes, some_passes, stage_passes}
 use Rattle.dx_node_spec.specs.Refusals.{queue_full, unknown_market, bad_price}
 use Rattle.dx_node_spec.specs.Book.{without}
 use Rattle.dx_node_spec.specs.Taking.{Taken, take_order}

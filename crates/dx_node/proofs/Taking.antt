@@ -1,32 +1,28 @@
 -- A node at which an order is placed: what its type keeps, and the plain node that it then stands for.
 use Rattle.std.proofs.Common.{◌≡◌, ℕ, ◌+◌, ◌<◌, ◌≤◌, ◌^◌, Bool, true, false, cond, not, ◌&&◌, ◌||◌, ◌==◌, nat_le, is_some, is_ok, List, [], ◌∷◌, ◌++◌, length, Option, Some, None, Result, Ok, Err, ok_or, refl, sym, ap, subst, ◌∙◌, arith}
-use Rattle.std.specs.Prelude.{All, slice_get}
+use Rattle.std.specs.Prelude.{All}
 use Rattle.std.specs.List.{AllByRecursion}
 use Rattle.std.specs.Option.{option_map_or}
 use Rattle.std.specs.FinMap.{get, empty, get-empty}
 use Rattle.dx_types.specs.Keys.{order_id_cmp}
-use Rattle.std.proofs.lemmas.Bool.{and_parts, or_right}
-use Rattle.std.proofs.lemmas.List.{length-map, length-append}
+use Rattle.std.proofs.lemmas.Bool.{or_right}
+use Rattle.std.proofs.lemmas.List.{length-append}
 use Rattle.std.proofs.lemmas.List.Elements.{recursion_from_All, All-from_recursion}
-use Rattle.std.proofs.lemmas.Option.{slice_get_within}
 use Rattle.std.proofs.lemmas.Bool.Decides.{nat_tests}
 use Rattle.dx_types.specs.declared.OrderId.{OrderId}
 use Rattle.dx_types.specs.declared.Order.{Order}
 use Rattle.dx_types.specs.declared.Op.{Op}
 use Rattle.dx_types.specs.declared.Clock.{Clock}
-use Rattle.dx_types.specs.declared.Params.{Params}
-use Rattle.dx_types.specs.declared.MarketParams.{MarketParams}
 use Rattle.dx_spec.specs.Lists.{is_empty}
 use Rattle.dx_spec.specs.Step.{◌>>=◌, ◌>>◌, refuse, fail_as}
 use Rattle.dx_spec.specs.State.{State, is_kept, is_short_term, filled_of}
 use Rattle.dx_spec.specs.Bounds.{most_orders}
-use Rattle.dx_spec.specs.Orders.{is_ioc, is_post_only, is_same_id, is_amount_of, is_subticks_of, fits_market, check_form, is_filled_up}
+use Rattle.dx_spec.specs.Orders.{is_ioc, is_post_only, is_same_id, check_form, is_filled_up}
 use Rattle.dx_spec.specs.Refusals.{already_filled}
 use Rattle.dx_spec.specs.Operations.{ops_step}
 use Rattle.dx_spec.specs.Blocks.{fold_from}
 use Rattle.dx_spec.proofs.Steps.{ok_same, passed}
-use Rattle.dx_sound.proofs.Scripts.{passes, unit_passes}
-use Rattle.dx_sound.proofs.Running.{mapped_true}
+use Rattle.dx_spec.proofs.Scripts.{passes, unit_passes, pass as goes_on, ok_answer}
 use Rattle.dx_accounts.specs.Steady.{IsSteady}
 use Rattle.dx_rules.specs.Settled.{IsSettled}
 use Rattle.dx_fill.specs.Conditions.{IsTradable}
@@ -39,8 +35,7 @@ use Rattle.dx_node_spec.specs.Node.{Node, next_height, committed, speculative}
 use Rattle.dx_node_spec.specs.Placing as whole
 use Rattle.dx_node_spec.specs.Placing.{Outcome, AllFilled, Rested, Dropped, Stopped, Refusal, refusal, is_among, is_newer_than, cancelled_until, no_cancel, would_cross, rests, settle_order, with_taken, taken_on}
 use Rattle.dx_speculation.specs.Faithful.{IsPlaceable, MayTake, MayRest, IsFaithful}
-use Rattle.dx_speculation.proofs.Lists.{all_weaker, all_both, all_push, all_filter}
-use Rattle.dx_speculation.proofs.Forms.{goes_on, ok_answer, form_parts, good_from}
+use Rattle.dx_speculation.proofs.Forms.{form_parts, good_from}
 use Rattle.dx_speculation.proofs.Unfilled.{room_left}
 use Rattle.dx_speculation.proofs.Closing.{taking_is_faithful}
 use Rattle.dx_speculation.proofs.Taking.{makers_among}
@@ -53,10 +48,12 @@ use Rattle.dx_node.specs.Standing.{StandsFor, Gives}
 use Rattle.dx_node.specs.declared.faults.PlaceFault.{PlaceFault}
 use Rattle.dx_node.specs.declared.faults.PlaceFault.TheVariants as places
 use Rattle.dx_node.specs.Faults.{PlaceRefused}
-use Rattle.dx_node.proofs.Plain.{Keeps, is_committed, is_speculative, faithful}
-use Rattle.dx_node.proofs.Crossing.{all_other}
+use Rattle.dx_node.proofs.Plain.{Keeps, is_committed, is_speculative, faithful, stand_back as back}
 use Rattle.dx_match.proofs.Sorted.{filter_shorter}
 use Rattle.dx_node.proofs.Built.{taken_built}
+use Rattle.dx_spec.proofs.Each.{all_weaker, all_both, all_push, all_filter}
+use Rattle.dx_match.proofs.Sides.{all_other}
+use Rattle.dx_operations.proofs.Standing.{fits, market_count}
 
 -- the node itself as a plain one, with its committed state as the base
 abbrev plain : Held → Node
@@ -76,20 +73,6 @@ same_clock h k =
 
 next_of : (h : Held) → Keeps h → h.committed.clock.height + 1 ≡ h.speculative.clock.height + 1
 next_of h k = ap (λ (c : Clock). c.height + 1) (sym (same_clock h k))
-
-record Fits (p : Params) (known : Bool) (o : Order) : Type 0 where
-  kept : known ≡ true
-  market : o.id.market < length p.markets
-
-fits : (p : Params) (known : Bool) (o : Order) → fits_market p known o ≡ true → Fits p known o
-unfolding fits_market
-fits p known o e =
-    let a = and_parts known (option_map_or (λ m. is_amount_of m o.size && is_subticks_of m o.subticks) (slice_get p.markets o.id.market) false) e in
-    let b = mapped_true (λ (m : MarketParams). is_amount_of m o.size && is_subticks_of m o.subticks) (slice_get p.markets o.id.market) a.1 in
-    record { kept = a.0; market = slice_get_within p.markets o.id.market b.0 b.1 }
-
-market_count : (s : State) → IsSteady s → length s.genesis.params.markets ≡ length s.markets
-market_count s h = ap length (sym h.within.params) ∙ length-map s.markets (λ m. m.params)
 
 -- an order of good form may be traded at the next height
 form_maker : (s : State) (height : ℕ) (o : Order) → IsSteady s → height ≡ s.clock.height + 1 → is_ok (check_form s.genesis.params (is_kept s o.id.who) height o) ≡ true → IsMaker s o
@@ -396,9 +379,6 @@ kept_placed g h height o t u queue book v k n e f w steady q b =
     subst (λ (ops : List Op). IsKept g.committed t.state ops book) (sym q)
     (subst (λ (os : List Order). IsKept g.committed t.state (g.queue ++ t.ops) os) (sym b)
     (kept_after g o t u k (subst (λ x. place_test g.speculative g.book g.queue x o ≡ Ok tt) n e) f w steady))
-
-back : (g h : Held) (p : Node) → g ≡ h → StandsFor h p → StandsFor g p
-back g h p v st = subst (λ (x : Held). StandsFor x p) (sym v) st
 
 -- the plain node that it then stands for
 pub placed_good : (g h n : Held) (p : Node) (height : ℕ) (o : Order) (t : Taken) (u : Outcome) → g ≡ h → Keeps g → height ≡ g.committed.clock.height + 1 → place_test g.speculative g.book g.queue height o ≡ Ok tt

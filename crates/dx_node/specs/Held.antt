@@ -14,7 +14,7 @@ use Rattle.dx_accounts.specs.Steady.{IsSteady}
 use Rattle.dx_operations.specs.Built.{IsBuilt}
 use Rattle.dx_rules.specs.Settled.{IsSettled}
 use Rattle.dx_node_spec.specs.Queue.{placed_by}
-use Rattle.dx_book.specs.Held.{HasOnePerId}
+use Rattle.dx_node_spec.specs.Book.{HasOnePerId}
 use Rattle.dx_speculation.specs.Faithful.{MayRest}
 use Rattle.dx_node.specs.Fed.{Prices, coded_prices}
 

@@ -5,7 +5,7 @@ use Rattle.dx_spec.specs.Blocks.{fold_from}
 use Rattle.dx_node_spec.specs.Node.{Node}
 use Rattle.dx_node.specs.Held.{Held}
 
--- the node has the state to which the blocks lead, all of which are good, the same queue, book and fed prices, and nothing that is not kept yet
+-- the node has the state to which the blocks lead, all of which are good, the same queue, book and fed prices, and nothing that is not kept yet; that its speculative state is what the queue leads to is kept by its type
 pub record StandsFor (h : Held) (p : Node) : Type 0 where
   pub number : h.number ≡ p.number
   pub genesis : h.committed.genesis ≡ p.genesis

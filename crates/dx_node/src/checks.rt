@@ -3,7 +3,7 @@
 ghost use Rattle.std.specs.Prelude.{◌≡◌, ◌||◌, ◌&&◌, Ok, is_some, OnOk, IfErr};
 ghost use Rattle.std.specs.FinMap.{get as order_at};
 ghost use Rattle.dx_spec.specs.State.{is_kept as kept_in, filled_of as filled_in};
-ghost use Rattle.dx_spec.specs.Orders.{is_post_only as only_rests, is_ioc as never_rests, crosses as crosses_of, check_order as order_test};
+ghost use Rattle.dx_spec.specs.Orders.{is_post_only as only_rests, check_order as order_test};
 ghost use Rattle.dx_orders.specs.Faults.{Answers};
 ghost use Rattle.dx_node_spec.specs.Book.{resting};
 ghost use Rattle.dx_node_spec.specs.Queue.{placed_by};
@@ -13,37 +13,11 @@ ghost use Rattle.dx_node.specs.Faults.{PlaceRefused};
 use crate::faults::PlaceFault;
 use dx_book::Book;
 use dx_ledger::Ledger;
-use dx_orders::{OrderFault, check_order};
+use dx_orders::{OrderFault, check_order, crosses, is_post_only};
 use dx_queue::Queue;
 use dx_state::PlainState;
 use dx_trade::filled_of;
-use dx_types::{Kind, Order, OrderId};
-
-/// Whether the kind only rests.
-fn is_post_only(kind: Kind) -> bool
-    ensures { result ≡ only_rests kind }
-{
-    matches!(kind, Kind::PostOnly)
-}
-
-/// Whether the kind never lets an order rest.
-pub(crate) fn is_ioc(kind: Kind) -> bool
-    ensures { result ≡ never_rests kind }
-{
-    matches!(kind, Kind::Ioc)
-}
-
-/// Whether the taker's price reaches the maker's.
-#[tactic(auto, unfolding(dx_spec::specs::Orders::crosses))]
-fn crosses(taker: &Order, maker: &Order) -> bool
-    ensures { result ≡ crosses_of taker.now maker.now }
-{
-    if taker.buy {
-        maker.subticks <= taker.subticks
-    } else {
-        taker.subticks <= maker.subticks
-    }
-}
+use dx_types::{Order, OrderId};
 
 /// The tests of a short-term order in a state.
 fn test_order(state: &PlainState, height: u32, o: &Order) -> Result<(), OrderFault>

@@ -69,7 +69,7 @@ impl From<NoMemory> for PlaceFault {
     }
 }
 
-/// Why a price is not fed ("Limits" in docs/RULES.md).
+/// Why a price is not fed ("Fed prices" in docs/RULES.md).
 #[derive(Clone, Copy, Debug, PartialEq, Eq, Error)]
 pub enum FeedFault {
     /// There is no such market.

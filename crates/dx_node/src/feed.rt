@@ -1,24 +1,22 @@
 //! The prices that a node was fed.
 
-ghost use Rattle.std.specs.Prelude.{◌≡◌, ◌<◌, ◌≤◌, ◌++◌, IfOk, OnOk, length, option_copied};
+ghost use Rattle.std.specs.Prelude.{◌≡◌, ◌<◌, ◌≤◌, ◌+◌, ◌++◌, IfOk, OnOk, length, option_copied};
 ghost use Rattle.std.specs.FinMap.{empty, insert as with_entry};
 ghost use Rattle.dx_accounts.specs.Steady.{IsSteady};
 ghost use Rattle.dx_node.specs.Fed.{allowed_at, allowed_from, prices_for};
 
 use crate::prices::allows;
 use dx_state::PlainState;
+use dx_types::limits::MOST_MARKETS;
 use dx_types::{List, NoMemory, PriceUpdate};
 use std::alloc::Global;
 use std::marker::Model;
-
-/// As many markets as a genesis may have.
-const MARKETS: usize = 32;
 
 /// A price for each market that was fed one, the last. Contracts see a finite map. It takes no memory.
 #[derive(Debug, Drop)]
 pub(crate) struct Feed {
     /// The price of each market, by number.
-    prices: [Option<u64>; MARKETS],
+    prices: [Option<u64>; MOST_MARKETS],
 }
 
 impl Model for Feed {
@@ -39,7 +37,8 @@ fn push_allowed(
     price: Option<u64>,
 ) -> Result<(), NoMemory>
     requires { IsSteady state.now }
-    ensures { OnOk result (list.new ≡ list.old ++ allowed_at state.now market price) }
+    ensures added { OnOk result (list.new ≡ list.old ++ allowed_at state.now market price) }
+    ensures few { OnOk result (length list.new ≤ length list.old + 1) }
 {
     let Some(price) = price else {
         return Ok(());
@@ -58,7 +57,8 @@ fn allowed(
 ) -> Result<List<PriceUpdate>, NoMemory>
     requires few { length prices.now ≤ 32 }
     requires steady { IsSteady state.now }
-    ensures { IfOk result (λ list. list ≡ allowed_from state.now 0 prices.now) }
+    ensures all { IfOk result (λ list. list ≡ allowed_from state.now 0 prices.now) }
+    ensures few { IfOk result (λ list. length list ≤ length prices.now) }
 {
     let mut list = List::new(alloc);
     let mut market = 0;
@@ -75,7 +75,7 @@ impl Feed {
         ensures { result ≡ empty }
     {
         Feed {
-            prices: [None; MARKETS],
+            prices: [None; MOST_MARKETS],
         }
     }
 
@@ -95,7 +95,8 @@ impl Feed {
         state: &PlainState,
     ) -> Result<List<PriceUpdate>, NoMemory>
         requires { IsSteady state.now }
-        ensures { IfOk result (λ list. list ≡ prices_for state.now self.now) }
+        ensures all { IfOk result (λ list. list ≡ prices_for state.now self.now) }
+        ensures few { IfOk result (λ list. length list ≤ 32) }
     {
         allowed(alloc, &self.prices, state)
     }

@@ -13,6 +13,7 @@ ghost use Rattle.dx_node_spec.specs.Node.{Node as PlainNode, new_node, next_heig
 ghost use Rattle.dx_node_spec.specs.Events.{fed};
 ghost use Rattle.dx_node_spec.specs.Reads as tells;
 ghost use Rattle.dx_speculation.specs.Faithful.{IsGoodBlock};
+ghost use Rattle.dx_node.specs.Short.{IsShort};
 ghost use Rattle.dx_node.specs.Stage.{commit as committed_with, propose as proposal, place as placed_with};
 ghost use Rattle.dx_node.specs.Stages.{proposed, outcome_of};
 ghost use Rattle.dx_node.specs.Standing.{StandsFor, LeadsTo, Gives};
@@ -23,14 +24,13 @@ use crate::commits::{After, apply};
 use crate::faults::{CommitFault, FeedFault, PlaceFault, ProposeFault};
 use crate::feed::Feed;
 use crate::placed::Placed;
-use crate::prices::is_price;
 use crate::proposing::check_time;
 use crate::reads::{best_of, has_market};
 use crate::trades::{settle, take};
 use dx_book::Book;
 use dx_ledger::Ledger;
 use dx_queue::Queue;
-use dx_rules::{BlockFault, check_block, genesis_is_settled};
+use dx_rules::{BlockFault, check_block, genesis_is_settled, is_price};
 use dx_state::PlainState;
 use dx_trade::filled_of;
 use dx_types::{Account, Audit, Block, Genesis, List, NoMemory, Order, OrderId, SubaccountId};
@@ -190,7 +190,8 @@ impl Node {
         Ok(results)
     }
 
-    /// Keeps a market's price for proposals, in the place of one that it has. It takes no memory.
+    /// Keeps a market's price for proposals, in the place of one that it has ("Fed prices" in docs/RULES.md). It
+    /// takes no memory.
     ///
     /// `NoMarket` where there is no such market; `BadPrice` exactly where the price is not from 1 to 2^48 − 1.
     /// The node is then as before.
@@ -212,7 +213,8 @@ impl Node {
     /// The block of a time, whatever that is: the queue as operations, no messages, no votes, and the fed
     /// prices that the markets may have after the queue. `NoMemory` where there is none for it.
     fn proposal(&self, time: u32) -> Result<Block, NoMemory>
-        ensures { IfOk result (λ block. block ≡ proposed self.now time) }
+        ensures is { IfOk result (λ block. block ≡ proposed self.now time) }
+        ensures short { IfOk result IsShort }
     {
         let alloc = self.allocator();
         Ok(Block {
@@ -227,7 +229,7 @@ impl Node {
 
     /// The block that the node proposes at a time: its queue as operations, and by market each fed price that
     /// the market may have after the queue ("Proposal" in docs/RULES.md). It has no messages and no votes yet.
-    /// It is good on the state after the node's blocks.
+    /// It is good on the state after the node's blocks, and none of its lists passes its limit.
     ///
     /// `WrongTime` exactly where the time is not past the committed one, or past 4,000,000,000; `LastHeight`
     /// exactly at the height 4,000,000,000; `NoMemory` where there is none for the block.
@@ -236,6 +238,7 @@ impl Node {
         ensures refused { IfErr result (λ fault. (p : PlainNode) → StandsFor self.now p → ProposeRefused (proposal p time) fault) }
         ensures good { IfOk result (λ block. (p : PlainNode) → StandsFor self.now p → IsGoodBlock (committed_of p) block) }
         ensures built { IfOk result IsBuilt }
+        ensures short { IfOk result IsShort }
     {
         check_time(self.committed.clock(), time)?;
         match self.proposal(time) {

@@ -6,9 +6,7 @@ ghost use Rattle.dx_node.specs.Faults.{ProposeRefused};
 
 use crate::faults::ProposeFault;
 use dx_types::Clock;
-
-/// The last height and the last time.
-const LAST_MOMENT: u32 = 4_000_000_000;
+use dx_types::limits::LAST_MOMENT;
 
 /// Tests a time for the block behind a clock: `WrongTime` where it is not later or past the last one,
 /// `LastHeight` where no height is left.

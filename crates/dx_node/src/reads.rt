@@ -1,20 +1,12 @@
 //! What a book tells of its orders in a state.
 
 ghost use Rattle.std.specs.Prelude.{◌≡◌, length, nat_lt};
-ghost use Rattle.dx_node_spec.specs.Book.{left as left_of};
 ghost use Rattle.dx_node.specs.Stages.{best_at};
 
 use dx_book::Book;
+use dx_match::left;
 use dx_state::PlainState;
-use dx_trade::filled_of;
-use dx_types::{Markets, Order};
-
-/// What is left of an order: base quantums.
-pub(crate) fn left(state: &PlainState, o: &Order) -> u64
-    ensures { result ≡ left_of state.now o.now }
-{
-    o.size.saturating_sub(filled_of(state, &o.id))
-}
+use dx_types::Markets;
 
 /// The subticks of the best order of a side and what is left of it; 0 and 0 where there is none.
 pub(crate) fn best_of(state: &PlainState, book: &Book, market: u32, buy: bool) -> (u64, u64)

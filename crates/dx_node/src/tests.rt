@@ -4,9 +4,11 @@ ghost use Rattle.std.specs.Prelude.{◌≤◌, IfOk};
 ghost use Rattle.dx_spec.specs.Genesis.{IsGenesis};
 ghost use Rattle.dx_rules.specs.Built.{IsBuilt};
 
-use crate::{CommitFault, FeedFault, Node, PlaceFault, Placed};
+use crate::proposing::check_time;
+use crate::{CommitFault, FeedFault, Node, PlaceFault, Placed, ProposeFault};
 use dx_types::{
-    Block, Genesis, Kind, List, MarketParams, Msg, NoMemory, Order, OrderId, Params, SubaccountId,
+    Block, Clock, Genesis, Kind, List, MarketParams, Msg, NoMemory, Order, OrderId, Params,
+    SubaccountId,
 };
 use std::alloc::Global;
 use std::process::Abort;
@@ -167,4 +169,18 @@ fn a_node_lives(rt: HostRuntime) -> Result<(), Fail> {
     let alloc = rt.alloc();
     let mut node = Node::new(alloc, &genesis(alloc)?, 3)?;
     live(&rt, alloc, &mut node)
+}
+
+// The last height has no next one, and a time that is not later is named first.
+#[test]
+fn no_height_is_left(rt: HostRuntime) -> Result<(), Fail> {
+    let clock = Clock {
+        height: 4_000_000_000,
+        time: 160,
+        sample_next: 180,
+        funding_next: 3_600,
+    };
+    assert!(rt; check_time(clock, 161) == Err(ProposeFault::LastHeight));
+    assert!(rt; check_time(clock, 160) == Err(ProposeFault::WrongTime));
+    Ok(())
 }

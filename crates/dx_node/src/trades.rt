@@ -5,27 +5,23 @@ ghost use Rattle.std.specs.List.{list_any};
 ghost use Rattle.dx_spec.specs.Bounds.{most_orders};
 ghost use Rattle.dx_accounts.specs.Steady.{IsSteady};
 ghost use Rattle.dx_fill.specs.Conditions.{IsTradable};
-ghost use Rattle.dx_book.specs.Held.{HasOnePerId};
 ghost use Rattle.dx_match.specs.Conditions.{IsBookFor};
 ghost use Rattle.dx_match.specs.Seen.{ended};
-ghost use Rattle.dx_node_spec.specs.Book.{resting};
+ghost use Rattle.dx_node_spec.specs.Book.{resting, HasOnePerId};
 ghost use Rattle.dx_node_spec.specs.Taking.{take_order};
 ghost use Rattle.dx_node.specs.Stages.{not_gone, goes_to as goes, take_step, outcome_of, with_rest};
 ghost use Rattle.dx_node.specs.Faults.{PlaceRefused};
 
-use crate::checks::is_ioc;
 use crate::faults::PlaceFault;
 use crate::placed::Placed;
-use crate::reads::left;
 use dx_book::Book;
-use dx_match::{TakeFault, Taken, match_order};
+use dx_match::{TakeFault, Taken, left, match_order};
+use dx_orders::is_ioc;
 use dx_queue::Queue;
 use dx_state::PlainState;
+use dx_types::limits::MOST_ORDERS;
 use dx_types::{Order, OrderId};
 use std::alloc::Global;
-
-/// How many orders a node's book may hold.
-const MOST_ORDERS: usize = 65_536;
 
 /// What was taken for an order, and what became of it.
 #[derive(Drop)]

@@ -1,5 +1,5 @@
 -- Which orders may be traded, after a placing and after a fill.
-use Rattle.std.proofs.Common.{◌≡◌, ℕ, ◌+◌, ◌^◌, ◌<◌, Bool, true, false, cond, not, ◌&&◌, [], length, Option, Some, None, Result, Ok, Err, refl, sym, ap, subst, ◌∙◌, slice_get, is_ok, IsTrue, IfSome}
+use Rattle.std.proofs.Common.{◌≡◌, ℕ, ◌+◌, ◌^◌, ◌<◌, Bool, true, false, cond, not, ◌&&◌, [], length, Option, Some, None, Ok, refl, sym, ap, subst, ◌∙◌, slice_get, IsTrue, IfSome}
 use Rattle.std.proofs.lemmas.Bool.{and_parts, eqb-false}
 use Rattle.std.proofs.lemmas.List.{length-map}
 use Rattle.std.proofs.lemmas.Option.{slice_get_within}
@@ -22,8 +22,8 @@ use Rattle.dx_spec.specs.Orders.{is_amount_of, is_subticks_of, fits_market, chec
 use Rattle.dx_spec.specs.Operations.{Placed, order_of, is_good_order}
 use Rattle.dx_spec.proofs.Steps.{true_from_not}
 use Rattle.dx_sound.specs.Within.{StepKeeps}
-use Rattle.dx_sound.proofs.Scripts.{passes, unit_passes}
-use Rattle.dx_sound.proofs.Maps.{each_inserted}
+use Rattle.dx_spec.proofs.Scripts.{passes, unit_passes, ok_answer}
+use Rattle.dx_spec.proofs.Entries.{each_inserted}
 use Rattle.dx_sound.proofs.Running.{mapped_true, standing}
 use Rattle.dx_accounts.specs.Steady.{IsSteady}
 use Rattle.dx_fill.specs.Conditions.{IsTradable}
@@ -31,23 +31,19 @@ use Rattle.dx_fill.proofs.Before.{tradable_fillable}
 use Rattle.dx_operations.specs.Midway.{ArePlaced, IsMidway}
 
 -- an order that fits its market is of a kept account and a known market
-record Fits (p : Params) (known : Bool) (o : Order) : Type 0 where
-  kept : known ≡ true
-  market : o.id.market < length p.markets
+pub record Fits (p : Params) (known : Bool) (o : Order) : Type 0 where
+  pub kept : known ≡ true
+  pub market : o.id.market < length p.markets
 
-fits : (p : Params) (known : Bool) (o : Order) → fits_market p known o ≡ true → Fits p known o
+pub fits : (p : Params) (known : Bool) (o : Order) → fits_market p known o ≡ true → Fits p known o
 unfolding fits_market
 fits p known o e =
     let a = and_parts known (option_map_or (λ m. is_amount_of m o.size && is_subticks_of m o.subticks) (slice_get p.markets o.id.market) false) e in
     let b = mapped_true (λ (m : MarketParams). is_amount_of m o.size && is_subticks_of m o.subticks) (slice_get p.markets o.id.market) a.1 in
     record { kept = a.0; market = slice_get_within p.markets o.id.market b.0 b.1 }
 
-ok_answer : (r : Result (Unit {0}) ℕ) → is_ok r ≡ true → r ≡ Ok tt
-ok_answer (Ok x) e = refl
-ok_answer (Err code) e = absurd (let i : false ≡ true = e in cc)
-
 -- the state has the genesis's markets
-market_count : (s : State) → IsSteady s → length s.genesis.params.markets ≡ length s.markets
+pub market_count : (s : State) → IsSteady s → length s.genesis.params.markets ≡ length s.markets
 market_count s h = ap length (sym h.within.params) ∙ length-map s.markets (λ m. m.params)
 
 record Formed (s : State) (height : ℕ) (o : Order) : Type 0 where
@@ -126,10 +122,10 @@ found_tradable height s placed id (Some o) h e = order_tradable height s placed 
 steady_filled : (s t : State) → IsSteady s → StepKeeps (2 ^ 101) s t → Balanced t → IsSteady t
 steady_filled s t h k b = record { genesis = subst IsGenesis (sym k.base.genesis) h.genesis; within = k.within; balanced = b }
 
-same_count : (s t : State) → StepKeeps (2 ^ 101) s t → length s.markets ≡ length t.markets
+pub same_count : (s t : State) → StepKeeps (2 ^ 101) s t → length s.markets ≡ length t.markets
 same_count s t k = sym (length-map s.markets (λ m. m.params)) ∙ ap length (sym k.base.params) ∙ length-map t.markets (λ m. m.params)
 
-form_filled : (s t : State) (o : Order) → StepKeeps (2 ^ 101) s t → is_kept s o.id.who ≡ true → is_kept t o.id.who ≡ true
+pub form_filled : (s t : State) (o : Order) → StepKeeps (2 ^ 101) s t → is_kept s o.id.who ≡ true → is_kept t o.id.who ≡ true
     → check_form s.genesis.params (is_kept s o.id.who) (s.clock.height + 1) o ≡ Ok tt
     → check_form t.genesis.params (is_kept t o.id.who) (t.clock.height + 1) o ≡ Ok tt
 form_filled s t o k before after e =

@@ -5,7 +5,6 @@ ghost use Rattle.dx_types.specs.Keys.{order_id_cmp};
 ghost use Rattle.dx_maps.specs.Tables.{map_of};
 ghost use Rattle.dx_spec.specs.Lists.{is_empty as has_none};
 ghost use Rattle.dx_spec.specs.Step.{try_each};
-ghost use Rattle.dx_spec.specs.Orders.{is_post_only as only_rests};
 ghost use Rattle.dx_spec.specs.Operations.{order_of as order_in, match_fill, match_step};
 ghost use Rattle.dx_ledger.specs.Marks.{KeepsMarks};
 ghost use Rattle.dx_trade.specs.Refusals.{IsFaultOf};
@@ -18,18 +17,16 @@ use crate::refusals::OpRefusal;
 use dx_fill::fill;
 use dx_ledger::{Branch, Ledger, OpFault};
 use dx_maps::get_copy;
-use dx_types::{Fill, Kind, Order, OrderId};
+use dx_orders::is_post_only;
+use dx_types::{Fill, Order, OrderId};
 use std::collections::BTreeMap;
-
-/// The flags of a short-term order.
-const SHORT_TERM: u32 = 0;
 
 /// The order of an id: a short-term one as the block has placed it, any other as it stands in the state
 /// ("Order of an id" in docs/RULES.md).
 fn find_order<L: Ledger>(l: &L, placed: &BTreeMap<OrderId, Order>, id: OrderId) -> Option<Order>
     ensures { result ≡ order_in (L.content l.now) (map_of order_id_cmp placed.now) id }
 {
-    if id.flags == SHORT_TERM {
+    if id.is_short_term() {
         get_copy(placed, id)
     } else {
         l.stateful(&id)
@@ -49,13 +46,6 @@ fn order_of<L: Ledger>(
     ensures tradable { IfSome result (IsTradable (L.content l.now)) }
 {
     find_order(l, placed, id)
-}
-
-/// Whether the kind lets an order only rest.
-fn is_post_only(kind: Kind) -> bool
-    ensures { result ≡ only_rests kind }
-{
-    matches!(kind, Kind::PostOnly)
 }
 
 /// Whether there is no fill.

@@ -1,21 +1,14 @@
 //! The tests of an order against its account, its market and the present height or time.
 
 ghost use Rattle.std.specs.Prelude.{◌≡◌};
-ghost use Rattle.dx_spec.specs.Orders.{is_ioc as never_rests, fits_market as is_fitting, step_of as step_in, is_filled_up as has_no_step, check_form as form_test, check_order as order_test, is_good_stateful};
+ghost use Rattle.dx_spec.specs.Orders.{fits_market as is_fitting, step_of as step_in, is_filled_up as has_no_step, check_form as form_test, check_order as order_test, is_good_stateful};
 ghost use Rattle.dx_orders.specs.Faults.{Answers};
 
 use crate::amounts::{is_amount, is_subticks};
 use crate::faults::OrderFault;
-use dx_types::{Kind, Order, OrderId, Params};
-
-/// The flags of a short-term order.
-const SHORT_TERM: u32 = 0;
-
-/// The flags of a stateful order.
-const LONG_TERM: u32 = 64;
-
-/// The heights for which a short-term order is good, after the one at which it is placed.
-const ORDER_WINDOW: u64 = 20;
+use crate::kinds::is_ioc;
+use dx_types::limits::ORDER_WINDOW;
+use dx_types::{Order, OrderId, Params, STATEFUL};
 
 /// Whether the order's account is kept and its market known, and its size and subticks are of that
 /// market.
@@ -52,10 +45,10 @@ fn is_filled_up(p: &Params, filled: u64, o: &Order) -> bool
 fn check_form(p: &Params, known: bool, height: u32, o: &Order) -> Result<(), OrderFault>
     ensures { Answers result (form_test p.now known height o.now) }
 {
-    if !(o.id.flags == SHORT_TERM && fits_market(p, known, o)) {
+    if !(o.id.is_short_term() && fits_market(p, known, o)) {
         return Err(OrderFault::BadOrder);
     }
-    if u64::from(o.until) > u64::from(height) + ORDER_WINDOW {
+    if u64::from(o.until) > u64::from(height) + u64::from(ORDER_WINDOW) {
         return Err(OrderFault::TooFar);
     }
     if o.until < height {
@@ -87,18 +80,11 @@ pub fn check_order(
     Ok(())
 }
 
-/// Whether the kind never lets an order rest.
-fn is_ioc(kind: Kind) -> bool
-    ensures { result ≡ never_rests kind }
-{
-    matches!(kind, Kind::Ioc)
-}
-
 /// Whether a stateful order is good at a time, in seconds: its flags are 64, its account is kept, it
 /// fits its market, it may rest, and it ends later. `known` says whether its account is kept.
 #[tactic(auto, unfolding(dx_spec::specs::Orders::is_good_stateful))]
 pub fn check_stateful(p: &Params, known: bool, time: u32, o: &Order) -> bool
     ensures { result ≡ is_good_stateful p.now known time o.now }
 {
-    o.id.flags == LONG_TERM && fits_market(p, known, o) && !is_ioc(o.kind) && time < o.until
+    o.id.flags == STATEFUL && fits_market(p, known, o) && !is_ioc(o.kind) && time < o.until
 }

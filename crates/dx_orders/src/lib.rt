@@ -1,5 +1,5 @@
 //! The tests of an order that speak of it alone: what a node asks of an order before it is placed, and
-//! a block before it takes one in.
+//! a block before it takes one in; and when two orders or names are one, and whether two prices cross.
 //!
 //! It stands on `dx_types` for orders and parameters, and on `dx_spec`, whose `Orders` defines each
 //! test and whose `Refusals` has the numbers. [`check_order`] tests a short-term order and names the
@@ -10,10 +10,14 @@
 
 mod amounts;
 mod checks;
+mod comparing;
 mod faults;
+mod kinds;
 #[cfg(test)]
 mod tests;
 
 pub use amounts::is_amount;
 pub use checks::{check_order, check_stateful};
+pub use comparing::{crosses, is_same_account, is_same_id, is_same_order, is_same_side};
 pub use faults::OrderFault;
+pub use kinds::{is_ioc, is_post_only};

@@ -1,10 +1,8 @@
 -- A block, from a state between blocks to the next one.
-use Rattle.std.proofs.Common.{◌≡◌, ◌<◌, ◌≤◌, ◌+◌, ◌*◌, ◌^◌, ◌-◌, ◌/◌, ◌==◌, ℕ, ℤ, Bool, false, pos, List, [], ◌∷◌, map, length, None, Ok, Err, refl, sym, ap, subst, ◌∙◌, arith}
-use Rattle.std.specs.Prelude.{not, ◌||◌, nat_lt, nat_le, All, slice_index_or}
-use Rattle.std.proofs.lemmas.Int.{ints}
+use Rattle.std.proofs.Common.{◌≡◌, ◌<◌, ◌≤◌, ◌+◌, ◌*◌, ◌^◌, ◌-◌, ◌/◌, ℕ, ℤ, pos, List, [], ◌∷◌, map, length, None, Ok, Err, refl, sym, ap, subst, ◌∙◌, arith}
+use Rattle.std.specs.Prelude.{All, slice_index_or}
 use Rattle.std.proofs.lemmas.List.{length-map}
 use Rattle.std.proofs.lemmas.List.Elements.{All-nil, All-cons}
-use Rattle.std.proofs.lemmas.Bool.Decides.{nat_tests}
 use Rattle.dx_types.specs.declared.MarketParams.{MarketParams}
 use Rattle.dx_types.specs.declared.Clock.{Clock}
 use Rattle.dx_types.specs.declared.Block.{Block}
@@ -14,20 +12,20 @@ use Rattle.dx_types.specs.declared.Vote.{Vote}
 use Rattle.dx_types.specs.declared.Op.{Op}
 use Rattle.dx_types.specs.declared.PriceUpdate.{PriceUpdate}
 use Rattle.dx_spec.specs.Step.{fail_as}
-use Rattle.dx_spec.specs.Codes.{wrong_height, wrong_time, too_long, header_part}
+use Rattle.dx_spec.specs.Codes.{header_part}
 use Rattle.dx_spec.specs.State.{State, genesis_state}
 use Rattle.dx_spec.specs.Genesis.{IsGenesis}
 use Rattle.dx_spec.specs.Bounds.{last_moment, sample_epoch}
 use Rattle.dx_spec.specs.Balance.{Balanced}
 use Rattle.dx_spec.specs.Operations.{ops_step}
 use Rattle.dx_spec.specs.Messages.{messages}
-use Rattle.dx_spec.specs.Blocks.{bad, most_messages, has_too_many_ops, check_header, votes_step, prices_step, end_step, block_step}
-use Rattle.dx_spec.proofs.Steps.{refuse_then, refuse_false, ok_same, passed}
+use Rattle.dx_spec.specs.Blocks.{bad, check_header, votes_step, prices_step, end_step, block_step}
+use Rattle.dx_spec.proofs.Steps.{ok_same, passed}
 use Rattle.dx_sound.specs.Within.{SoundWithin, SameBase, most_paid}
-use Rattle.dx_sound.proofs.Scripts.{unit_passes, stage_passes}
+use Rattle.dx_spec.proofs.Scripts.{unit_passes, stage_passes}
 use Rattle.dx_sound.proofs.Midway.{SoundWithin-ops_step, SoundWithin-messages, SoundWithin-prices_step}
 use Rattle.dx_sound.proofs.Rooms.{HasRoom-Sound, HasRoom-SameBase}
-use Rattle.dx_sound.proofs.Blocks.{moves_on}
+use Rattle.dx_sound.proofs.Blocks.{moves_on, within_more as SoundWithin-more, IsNext, next as is_next}
 use Rattle.dx_sound.proofs.Both.{block_keeps_both}
 use Rattle.dx_sound.proofs.Sounding.{SoundWithin-Sound}
 use Rattle.dx_sound.proofs.Beginning.{Sound-genesis}
@@ -41,45 +39,6 @@ use Rattle.dx_rules.specs.Settled.{IsQuiet, IsSettled, AreZeros}
 use Rattle.dx_rules.specs.Stages.{IsReady, IsEnding, HasPlace}
 use Rattle.dx_rules.proofs.Keeping.{ops_stay, messages_stay, prices_stay}
 use Rattle.dx_rules.proofs.Ending.{IsEnding-end_step}
-
--- what a good header says
-pub record IsNext (s : State) (b : Block) : Type 0 where
-  pub height : b.height ≡ s.clock.height + 1
-  pub last_height : b.height ≤ last_moment
-  pub later : s.clock.time < b.time
-  pub last_time : b.time ≤ last_moment
-  pub few : length b.msgs ≤ 256
-
-next_from : (h t n hs ts : ℕ) (ops : Bool) → (not (h == hs + 1) || nat_lt last_moment h) ≡ false → (nat_le t ts || nat_lt last_moment t) ≡ false → (ops || nat_lt most_messages n) ≡ false
-    → (h ≡ hs + 1) × (h ≤ last_moment) × (ts < t) × (t ≤ last_moment) × (n ≤ 256)
-next_from h t n hs ts ops a b c = (grind (arith, nat_tests, a), grind (arith, nat_tests, a), grind (arith, nat_tests, b), grind (arith, nat_tests, b), grind (arith, nat_tests, c))
-
-pub is_next : (s : State) (b : Block) → check_header s b ≡ Ok tt → IsNext s b
-unfolding check_header
-is_next s b e =
-    let height = refuse_false wrong_height (not (b.height == s.clock.height + 1) || nat_lt last_moment b.height) _ tt e in
-    let behind = refuse_then wrong_height (not (b.height == s.clock.height + 1) || nat_lt last_moment b.height) _ tt e in
-    let time = refuse_false wrong_time (nat_le b.time s.clock.time || nat_lt last_moment b.time) _ tt behind in
-    let last = refuse_then wrong_time (nat_le b.time s.clock.time || nat_lt last_moment b.time) _ tt behind in
-    let size = refuse_false too_long (has_too_many_ops b.ops || nat_lt most_messages (length b.msgs)) _ tt last in
-    let all = next_from b.height b.time (length b.msgs) s.clock.height s.clock.time (has_too_many_ops b.ops) height time size in
-    record { height = all.0; last_height = all.1; later = all.2; last_time = all.3; few = all.4 }
-
--- more may have been paid
-pub SoundWithin-more : (most more : ℕ) (s : State) → most ≤ more → SoundWithin most s → SoundWithin more s
-SoundWithin-more most more s h w = record {
-  accounts = w.accounts;
-  account_count = w.account_count;
-  params = w.params;
-  markets = w.markets;
-  filled = w.filled;
-  stateful = w.stateful;
-  stateful_count = w.stateful_count;
-  fees = w.fees;
-  insurance = w.insurance;
-  paid_in = (w.paid_in.0, let i = w.paid_in.1 in omega (arith, ints, h, i));
-  paid_out = (w.paid_out.0, let i = w.paid_out.1 in omega (arith, ints, h, i));
-}
 
 paid_by : (h : ℕ) → h ≤ last_moment → most_paid h ≤ 2 ^ 100
 paid_by h l = omega (arith, l)
@@ -115,7 +74,7 @@ after_ops s t b k built n e =
     record { within = w.0; base = w.1; stateful = ops_stay s b.height b.ops t built.ops e }
 
 later_than : (s t : State) (b : Block) → SameBase s t → IsNext s b → t.clock.time ≤ b.time
-later_than s t b e n = subst (λ (k : Clock). k.time ≤ b.time) (sym e.clock) (let l = n.later in omega (arith, l))
+later_than s t b e n = subst (λ (k : Clock). k.time ≤ b.time) (sym e.clock) (let l = n.time in omega (arith, l))
 
 fits : (n : ℕ) → n ≤ 256 → 2 ^ 100 + 2 ^ 60 * n ≤ 2 ^ 101
 fits n h = omega (arith, h)

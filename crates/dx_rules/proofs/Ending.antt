@@ -95,7 +95,7 @@ index_after-zero m h =
     ap (λ z. trunc_div (z *ℤ ten_up x) (pos 8 *ℤ ten_down x)) (nothing_times (pos m.price)) ∙ ap (λ z. trunc_div z (pos 8 *ℤ ten_down x)) (nothing_times (ten_up x)) ∙ nothing_over (pos 8 *ℤ ten_down x) in
     ap (λ z. clamp (m.index +ℤ z) (neg_ℤ (pos most_index)) (pos most_index)) d ∙ within_index m.index most_index h
 
-cond_none : {X : Type 0} (b : Bool) → ◌≡◌ {A = Option X} (cond b None None) None
+pub cond_none : {X : Type 0} (b : Bool) → ◌≡◌ {A = Option X} (cond b None None) None
 cond_none true = refl
 cond_none false = refl
 

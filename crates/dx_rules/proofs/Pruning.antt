@@ -15,9 +15,10 @@ use Rattle.dx_spec.specs.State.{State, is_short_term}
 use Rattle.dx_spec.specs.Filters.{prunable}
 use Rattle.dx_spec.specs.Blocks.{is_prunable}
 use Rattle.dx_spec.proofs.Lists.{from_map}
-use Rattle.dx_sound.proofs.Maps.{is_key}
+use Rattle.dx_spec.proofs.Entries.{is_key}
 use Rattle.dx_ledger.specs.Writes.{with_record}
 use Rattle.dx_rules.specs.Stages.{pruned}
+use Rattle.dx_rules.proofs.Ending.{cond_none}
 
 -- what is found passes the test
 found_cond : {E : Type 0} (test : E → Bool) (b : Bool) (x y : E) (o : Option E) → test x ≡ b → (o ≡ Some y → test y ≡ true) → cond b (Some x) o ≡ Some y → test y ≡ true
@@ -74,10 +75,6 @@ unfolding prunable
 found_ends s height id e =
     from_map (λ k. is_prunable s height k ≡ true) (λ (e : OrderId × FillRecord). e.0) (find (λ e. is_prunable s height e.0) (entries s.filled)) id e
     (λ x i. find_passes (λ (e : OrderId × FillRecord). is_prunable s height e.0) (entries s.filled) x i)
-
-cond_none : {X : Type 0} (b : Bool) → ◌≡◌ {A = Option X} (cond b None None) None
-cond_none true = refl
-cond_none false = refl
 
 -- a record that ends and is dropped before is dropped all the same
 same_left : (short b : Bool) (f : FillRecord → Bool) (o x : Option FillRecord) → x ≡ cond b None o → (b ≡ true → (short && option_map_or f o false) ≡ true)

@@ -9,12 +9,7 @@ ghost use Rattle.dx_rules.specs.Stages.{IsEnding, HasPlace, pruned, moved, with_
 
 use dx_ledger::Ledger;
 use dx_types::NoMemory;
-
-/// Seconds from one sample tick to the next.
-const SAMPLE_EPOCH: u32 = 60;
-
-/// Seconds from one funding tick to the next.
-const FUNDING_EPOCH: u32 = 3_600;
+use dx_types::limits::{FUNDING_EPOCH, SAMPLE_EPOCH};
 
 /// Drops the short-term records that end with a block of this height.
 fn drop_records<L: Ledger>(l: &mut L, height: u32) -> Result<(), NoMemory>

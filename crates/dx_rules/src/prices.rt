@@ -1,8 +1,7 @@
 //! The prices of a block.
 
-ghost use Rattle.std.specs.Prelude.{◌≡◌, ◌<◌, ◌≤◌, ◌+◌, ◌^◌, pos, true, OnOk, IfErr, IfSome, slice_get};
-ghost use Rattle.dx_spec.specs.Margin.{value as worth};
-ghost use Rattle.dx_spec.specs.Bounds.{is_price as is_price_number, is_worth};
+ghost use Rattle.std.specs.Prelude.{◌≡◌, ◌<◌, ◌+◌, ◌^◌, true, OnOk, IfErr, IfSome, slice_get};
+ghost use Rattle.dx_spec.specs.Bounds.{is_price as is_price_number};
 ghost use Rattle.dx_spec.specs.Codes.{prices_part, bad_price};
 ghost use Rattle.dx_spec.specs.Blocks.{bad, is_above as is_above_market, is_price_of as is_price_for, prices_step};
 ghost use Rattle.dx_ledger.specs.Marks.{KeepsMarks};
@@ -13,21 +12,16 @@ ghost use Rattle.dx_rules.specs.Stages.{priced, price_step};
 
 use crate::refusals::Refusal;
 use dx_ledger::Ledger;
-use dx_margin::value;
 use dx_operations::BlockFault;
+use dx_trade::is_bounded_worth;
+use dx_types::limits::SIZE_LIMIT;
 use dx_types::{Bad, MarketInfo, PriceUpdate};
-
-/// A price, and an open interest in base quantums, stays below this.
-const SIZE_LIMIT: u64 = 1 << 48;
-
-/// The value of an open interest stays below this: quote quantums.
-const WORTH_LIMIT: u128 = 1 << 56;
 
 /// The number of the prices among the parts of a block.
 const PRICES_PART: u32 = 4;
 
-/// Whether a number is a price that a market may have.
-fn is_price(price: u64) -> bool
+/// Whether a number is a price, from 1 to 2^48 − 1 ("Limits" in docs/RULES.md).
+pub fn is_price(price: u64) -> bool
     ensures { result ≡ is_price_number price }
 {
     0 < price && price < SIZE_LIMIT
@@ -40,22 +34,14 @@ fn at_price(m: &MarketInfo, price: u64) -> MarketInfo
     MarketInfo { price, ..*m }
 }
 
-/// Whether the value of a market's open interest keeps its bound.
-fn is_interest_bounded(m: &MarketInfo) -> bool
-    requires market { IsMarket m.now }
-    requires oi { m.now.oi < 2 ^ 48 }
-    ensures { result ≡ is_worth (worth m.now (pos m.now.oi)) }
-{
-    value(m, m.oi as i64).unsigned_abs() < WORTH_LIMIT
-}
-
-/// Whether a market may have a price: it is in its range, and the value of the open interest keeps its bound.
-fn is_price_of(m: &MarketInfo, price: u64) -> bool
+/// Whether a market may have a price: it is one, and the value of the open interest keeps its bound ("Prices"
+/// in docs/RULES.md).
+pub fn is_price_of(m: &MarketInfo, price: u64) -> bool
     requires market { IsMarket m.now }
     requires oi { m.now.oi < 2 ^ 48 }
     ensures { result ≡ is_price_for m.now price }
 {
-    is_price(price) && is_interest_bounded(&at_price(m, price))
+    is_price(price) && is_bounded_worth(&at_price(m, price), m.oi as i64)
 }
 
 /// Whether a market is above the one before, if there is one.
@@ -68,8 +54,8 @@ fn is_above(before: Option<u32>, market: u32) -> bool
     }
 }
 
-/// A market, whose numbers are in their ranges.
-fn market_of<L: Ledger>(l: &L, market: u32) -> Option<MarketInfo>
+/// A market of the ledger, if it is known; its numbers are in their ranges ("Limits" in docs/RULES.md).
+pub fn market_of<L: Ledger>(l: &L, market: u32) -> Option<MarketInfo>
     requires { IsSteady (L.content l.now) }
     ensures value { result ≡ slice_get (L.content l.now).markets market }
     ensures ranges { IfSome result IsMarket }

@@ -11,17 +11,13 @@ use crate::parts::{
 };
 use crate::shape::{Shape, each_of};
 use crate::value::value_of;
+use dx_types::limits::{FUND_LIMIT, LAST_MOMENT, MOST_MARKETS};
 use dx_types::{Genesis, List, MarketParams, Params};
 use serde_json::Value;
 use std::alloc::Global;
 
+/// A scenario may have so many nodes.
 const MOST_NODES: u32 = 16;
-
-const LAST_MOMENT: u32 = 4_000_000_000;
-
-const MOST_INSURANCE: i64 = 1_152_921_504_606_846_975;
-
-const MOST_MARKETS: usize = 32;
 
 /// The five rates of a genesis, in parts per million.
 #[derive(Clone, Copy, Debug, PartialEq, Eq)]
@@ -151,7 +147,7 @@ fn genesis_in(alloc: Global, line: &Value) -> Result<(u32, Genesis), LineFault>
 {
     let nodes = u32_within(line, 1, 1, 1, MOST_NODES)?;
     let time = u32_within(line, 2, 2, 0, LAST_MOMENT)?;
-    let insurance = i64_within(line, 3, 3, 0, MOST_INSURANCE)?;
+    let insurance = i64_within(line, 3, 3, 0, FUND_LIMIT - 1)?;
     let params = params_in(alloc, line)?;
     closed(line, 7, 7)?;
     let genesis = Genesis {

@@ -4,10 +4,8 @@ ghost use Rattle.dx_scenario.specs.Names.{subaccount_in, subaccount_of, subaccou
 
 use crate::fault::LineFault;
 use crate::parts::{closed, u32_part, value_part};
-use dx_types::{OrderId, SubaccountId};
+use dx_types::{OrderId, SHORT_TERM, SubaccountId};
 use serde_json::Value;
-
-const SHORT_TERM: u32 = 0;
 
 #[tactic(auto, unfolding(crate::specs::Names::subaccount_in))]
 fn subaccount_in(value: &Value, place: u32) -> Result<SubaccountId, LineFault>

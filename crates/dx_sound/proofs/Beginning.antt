@@ -21,7 +21,7 @@ use Rattle.dx_spec.specs.Blocks.{block_step, fold_from, fold_blocks}
 use Rattle.dx_spec.specs.Genesis.{IsMarketParams, IsGenesis}
 use Rattle.dx_spec.specs.Balance.{IsSoundMarket, Sound}
 use Rattle.dx_spec.proofs.Steps.{ok_same}
-use Rattle.dx_sound.proofs.Scripts.{stage_passes}
+use Rattle.dx_spec.proofs.Scripts.{stage_passes}
 use Rattle.dx_sound.proofs.Epochs.{emptied}
 use Rattle.dx_sound.proofs.Blocks.{Sound-block_step}
 

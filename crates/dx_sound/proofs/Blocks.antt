@@ -14,20 +14,20 @@ use Rattle.dx_spec.specs.Blocks.{bad, most_messages, has_too_many_ops, check_hea
 use Rattle.dx_spec.specs.Balance.{Sound}
 use Rattle.dx_spec.proofs.Steps.{ok_same, true_from_not, passed}
 use Rattle.dx_sound.specs.Within.{most_paid, IsPaidWithin, SoundWithin, last_voted}
-use Rattle.dx_sound.proofs.Scripts.{passes, unit_passes, stage_passes}
+use Rattle.dx_spec.proofs.Scripts.{passes, unit_passes, stage_passes}
 use Rattle.dx_sound.proofs.Sounding.{SoundWithin-Sound, IsWhole-SoundWithin}
 use Rattle.dx_sound.proofs.Rooms.{HasRoom-Sound, HasRoom-SameBase, IsAfter, IsAfter-end_step}
 use Rattle.dx_sound.proofs.Midway.{SoundWithin-ops_step, SoundWithin-messages, SoundWithin-votes_step, SoundWithin-prices_step}
 
 -- what the header's tests say
-record IsNext (s : State) (b : Block) : Type 0 where
-  height : b.height ≡ s.clock.height + 1
-  last_height : b.height ≤ last_moment
-  time : s.clock.time < b.time
-  last_time : b.time ≤ last_moment
-  few : length b.msgs ≤ most_messages
+pub record IsNext (s : State) (b : Block) : Type 0 where
+  pub height : b.height ≡ s.clock.height + 1
+  pub last_height : b.height ≤ last_moment
+  pub time : s.clock.time < b.time
+  pub last_time : b.time ≤ last_moment
+  pub few : length b.msgs ≤ most_messages
 
-next : (s : State) (b : Block) → check_header s b ≡ Ok tt → IsNext s b
+pub next : (s : State) (b : Block) → check_header s b ≡ Ok tt → IsNext s b
 unfolding check_header
 next s b e =
     let a = passes wrong_height (not (b.height == s.clock.height + 1) || nat_lt last_moment b.height) _ tt e in
@@ -54,7 +54,7 @@ paid_more : (a b : ℕ) (z : ℤ) → a ≤ b → IsPaidWithin a z → IsPaidWit
 paid_more a b z l h = (h.0, let i : z ≤ℤ pos a = h.1 in omega (arith, ints, i, l))
 
 -- the bound on what is paid may rise
-within_more : (a b : ℕ) (s : State) → a ≤ b → SoundWithin a s → SoundWithin b s
+pub within_more : (a b : ℕ) (s : State) → a ≤ b → SoundWithin a s → SoundWithin b s
 within_more a b s l h = record {
   accounts = h.accounts;
   account_count = h.account_count;

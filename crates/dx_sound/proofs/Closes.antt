@@ -18,12 +18,13 @@ use Rattle.dx_spec.specs.Liquidation.{check_liquidation, check_close, make_liqui
 use Rattle.dx_spec.specs.Deleveraging.{is_negative, check_offset, check_negative, is_opposite, make_offset, delever_step}
 use Rattle.dx_spec.proofs.Steps.{ok_same, true_from_not}
 use Rattle.dx_sound.proofs.Steps.{abs_signed}
-use Rattle.dx_sound.proofs.Scripts.{passes, unit_passes, some_passes, stage_passes}
+use Rattle.dx_spec.proofs.Scripts.{passes, unit_passes, some_passes, stage_passes}
 use Rattle.dx_sound.proofs.Holding.{IsAmountIn, IsHeldOrder, Frame, params_in, Held}
 use Rattle.dx_sound.proofs.Settlement.{Held-settle_step, filled-settle_step}
 use Rattle.dx_sound.proofs.Trades.{amount_parts, trades, Held-trade}
-use Rattle.dx_sound.proofs.Sides.{insurance-fill_side, Held-fill_side}
+use Rattle.dx_sound.proofs.Sides.{Held-fill_side}
 use Rattle.dx_sound.proofs.Fills.{MarketFor, markets_for, amount_in, opened, closed, left_after}
+use Rattle.dx_laws.proofs.Filling.{fill_side-insurance as insurance-fill_side}
 
 -- an account that is liquidatable is kept
 liquidatable_kept : (s : State) (who : SubaccountId) → is_liquidatable (risk_of s who) ≡ true → is_kept s who ≡ true

@@ -11,7 +11,7 @@ use Rattle.dx_spec.specs.State.{State, is_short_term, filled_of}
 use Rattle.dx_spec.specs.Bounds.{most_orders}
 use Rattle.dx_spec.specs.Blocks.{is_ending, is_prunable}
 use Rattle.dx_sound.proofs.Steps.{at_most}
-use Rattle.dx_sound.proofs.Maps.{get_retained, retained_get, len_retained}
+use Rattle.dx_spec.proofs.Entries.{get_retained, retained_get, len_retained}
 use Rattle.dx_sound.proofs.Holding.{IsHeldRecord}
 use Rattle.dx_sound.proofs.Running.{good_at}
 use Rattle.dx_sound.proofs.Wholes.{own, IsWhole}

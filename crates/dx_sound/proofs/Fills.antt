@@ -22,7 +22,7 @@ use Rattle.dx_spec.proofs.Steps.{ok_same, true_from_not}
 use Rattle.dx_sound.proofs.Holding.{IsAmountIn, IsHeldOrder, Frame, params_in, Held}
 use Rattle.dx_sound.proofs.Settlement.{Held-settle_step, filled-settle_step}
 use Rattle.dx_sound.proofs.Sides.{sides, Held-fill_side}
-use Rattle.dx_sound.proofs.Scripts.{passes, unit_passes, some_passes, stage_passes}
+use Rattle.dx_spec.proofs.Scripts.{passes, unit_passes, some_passes, stage_passes}
 
 -- what the tests of the orders say
 record Pairs (taker maker : Order) : Type 0 where
@@ -131,11 +131,11 @@ then_apart Equal b e = absurd (cc)
 then_apart Greater b e = refl
 
 -- orders of two accounts have two ids
-ids_apart : (a b : OrderId) → is_same_account a.who b.who ≡ false → eq_by_cmp order_id_cmp a b ≡ false
+pub ids_apart : (a b : OrderId) → is_same_account a.who b.who ≡ false → eq_by_cmp order_id_cmp a b ≡ false
 ids_apart a b e = then_apart (subaccount_cmp a.who b.who) _ e
 
 -- a side fills no other order
-other_filled : (s : State) (o : Order) (amount : ℕ) (whole : ℤ) (ppm : ℕ) (t : State) (id : OrderId) → fill_side s o amount whole ppm ≡ Some t
+pub other_filled : (s : State) (o : Order) (amount : ℕ) (whole : ℤ) (ppm : ℕ) (t : State) (id : OrderId) → fill_side s o amount whole ppm ≡ Some t
     → is_same_account id.who o.id.who ≡ false → filled_of t id ≡ filled_of s id
 other_filled s o amount whole ppm t id e d =
     let i = sides s o amount whole ppm t e in

@@ -1,11 +1,8 @@
 pub mod Steps
-pub mod Lists
-pub mod Maps
 pub mod Holding
 pub mod Settlement
 pub mod Trades
 pub mod Sides
-pub mod Scripts
 pub mod Fills
 pub mod Closes
 pub mod Running

@@ -22,8 +22,8 @@ use Rattle.dx_spec.specs.Orders.{is_good_stateful}
 use Rattle.dx_spec.specs.Operations.{without_order}
 use Rattle.dx_spec.specs.Messages.{is_bad_sum, is_one_too_many, change_quote, may_change, deposit_step, withdraw_step, check_transfer, transfer_step, place_stateful_step, cancel_stateful_step, message_step, after_message, message, messages}
 use Rattle.dx_spec.proofs.Steps.{ok_same, true_from_not}
-use Rattle.dx_sound.proofs.Scripts.{passes, unit_passes, some_passes}
-use Rattle.dx_sound.proofs.Maps.{is_key, each_inserted, same_keys, len_same, len_more, contains-insert}
+use Rattle.dx_spec.proofs.Scripts.{passes, unit_passes, some_passes}
+use Rattle.dx_spec.proofs.Entries.{is_key, each_inserted, same_keys, len_same, len_more, contains-insert}
 use Rattle.dx_sound.proofs.Holding.{Parts, IsHeldAccount, IsHeldRecord, IsWithin, Frame, params_in, Held, StandsWell}
 use Rattle.dx_sound.proofs.Settlement.{Held-settle_step, len-settle_step, kept-settle_step}
 use Rattle.dx_sound.proofs.Trades.{account_held}

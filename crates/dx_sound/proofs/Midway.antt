@@ -32,7 +32,7 @@ use Rattle.dx_sound.proofs.Sounding.{SoundWithin-Sound, IsWhole-SoundWithin, Sou
 use Rattle.dx_sound.proofs.Rooms.{HasRoom-Sound, HasRoom-IsVoted, IsAfter-end_step}
 
 -- a state that is held against any parts is sound in the middle of a block
-within : (f : Frame) (s : State) → Held f None s → StandsWell f → SoundWithin f.most s
+pub within : (f : Frame) (s : State) → Held f None s → StandsWell f → SoundWithin f.most s
 within f s h w = SoundWithin-IsWhole f.most s (IsWhole-told f f.most s (told_from f f.parts.stateful f.kept f.most s h w))
 
 -- an order that may be filled is one that the state's parts hold

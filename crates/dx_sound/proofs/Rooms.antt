@@ -12,7 +12,7 @@ use Rattle.dx_spec.specs.Premiums.{next_tick}
 use Rattle.dx_spec.specs.Blocks.{drop_ended, take_samples, take_funding, end_step}
 use Rattle.dx_spec.specs.Balance.{IsSoundClock, Sound}
 use Rattle.dx_sound.specs.Within.{most_paid, SameBase, sample_room, HasVoteRoom, HasRoom}
-use Rattle.dx_sound.proofs.Lists.{all_at, at_all}
+use Rattle.dx_spec.proofs.Places.{all_at, at_all}
 use Rattle.dx_sound.proofs.Wholes.{IsWhole}
 use Rattle.dx_sound.proofs.Votes.{IsVoted}
 use Rattle.dx_sound.proofs.Ends.{moved_state, moved_whole}

@@ -1,5 +1,5 @@
 -- The operations of a block keep a state held.
-use Rattle.std.proofs.Common.{◌≡◌, ℕ, ◌+◌, ◌<◌, ◌≤◌, Bool, true, false, cond, not, ◌&&◌, ◌==◌, nat_lt, int_le, is_ok, List, Option, Some, None, Result, Ok, Err, refl, sym, ap, subst, ◌∙◌, arith, slice_get}
+use Rattle.std.proofs.Common.{◌≡◌, ℕ, ◌+◌, ◌<◌, ◌≤◌, Bool, true, false, cond, not, ◌&&◌, ◌==◌, nat_lt, int_le, is_ok, List, Option, Some, None, Ok, refl, sym, ap, subst, ◌∙◌, arith, slice_get}
 use Rattle.std.proofs.lemmas.Bool.{and_parts, and_from, ltb-true, ltb-false, lt-ltb, cond-false, both_ways}
 use Rattle.std.proofs.lemmas.Bool.Decides.{nat_tests}
 use Rattle.std.specs.Option.{option_map_or}
@@ -27,9 +27,9 @@ use Rattle.dx_spec.specs.Accounts.{settle_step, risk_of}
 use Rattle.dx_spec.specs.Orders.{is_ioc, is_post_only, is_amount_of, is_subticks_of, fits_market, check_form, check_order, is_good_stateful, newer}
 use Rattle.dx_spec.specs.Operations.{Placed, Progress, at_fill, order_of, is_good_order, place_step, without_order, remove_step, match_fill, match_step, liquidation_fill, liquidation_step, deleveraging_offset, deleveraging_step, op_step, op_at, ops_step}
 use Rattle.dx_spec.proofs.Steps.{ok_same, true_from_not, passed, try_each-keeps}
-use Rattle.dx_sound.proofs.Scripts.{passes, unit_passes, some_passes, stage_passes}
+use Rattle.dx_spec.proofs.Scripts.{passes, unit_passes, some_passes, stage_passes, ok_answer}
 use Rattle.dx_sound.proofs.Steps.{at_most}
-use Rattle.dx_sound.proofs.Maps.{each_inserted, get_removed, len_removed}
+use Rattle.dx_spec.proofs.Entries.{each_inserted, get_removed, len_removed}
 use Rattle.dx_sound.proofs.Holding.{Parts, Frame, IsHeldRecord, Held, StandsWell, IsHeldOrder}
 use Rattle.dx_sound.proofs.Trades.{amount_parts}
 use Rattle.dx_sound.proofs.Fills.{Held-fill_step}
@@ -117,10 +117,6 @@ order_held f m s placed id o h w p e =
       | true ↦ λ e. placed_order f m o (p id o e)
       | false ↦ λ e. stateful_order (with_stateful f m) id o w (sym (ap (λ (q : Parts). get q.stateful id) h.parts) ∙ e)
     ] e
-
-ok_answer : (r : Result (Unit {0}) ℕ) → is_ok r ≡ true → r ≡ Ok tt
-ok_answer (Ok x) e = refl
-ok_answer (Err code) e = absurd (let i : false ≡ true = e in cc)
 
 -- what the tests of a short-term order say
 record IsGood (known : Bool) (height : ℕ) (o : Order) : Type 0 where

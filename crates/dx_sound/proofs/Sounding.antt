@@ -14,7 +14,7 @@ use Rattle.dx_spec.specs.Premiums.{next_tick}
 use Rattle.dx_spec.specs.Balance.{IsSoundPosition, IsSoundMarket, IsSoundFilled, IsSoundClock, Sound}
 use Rattle.dx_sound.specs.Within.{SoundWithin, most_paid}
 use Rattle.dx_sound.proofs.Holding.{IsHeldPosition, IsHeldRecord}
-use Rattle.dx_sound.proofs.Lists.{all_at, at_all}
+use Rattle.dx_spec.proofs.Places.{all_at, at_all}
 use Rattle.dx_sound.proofs.Wholes.{own, IsWhole}
 use Rattle.dx_sound.proofs.Epochs.{Premiums, IsTimed}
 

@@ -26,8 +26,8 @@ use Rattle.dx_laws.proofs.Positions.{size_shifted}
 use Rattle.dx_spec.proofs.Parts.{traded, traded_state, with_oi}
 use Rattle.dx_laws.proofs.Rising.{Rise-shifted}
 use Rattle.dx_sound.proofs.Steps.{multiple_sum}
-use Rattle.dx_sound.proofs.Lists.{at_changed, map-changed_at}
-use Rattle.dx_sound.proofs.Maps.{each_inserted, same_keys, len_same}
+use Rattle.dx_spec.proofs.Places.{at_changed, map-changed_at}
+use Rattle.dx_spec.proofs.Entries.{each_inserted, same_keys, len_same}
 use Rattle.dx_sound.proofs.Holding.{IsAmountIn, IsHeldPosition, IsHeldAccount, IsHeldMarket, Frame, params_in, Held}
 
 -- the first that passes a test

@@ -13,8 +13,8 @@ use Rattle.dx_spec.specs.Margin.{value}
 use Rattle.dx_spec.specs.Blocks.{bad, is_above, is_price_of, prices_step}
 use Rattle.dx_spec.proofs.Steps.{ok_same, true_from_not}
 use Rattle.dx_sound.specs.Within.{SameBase}
-use Rattle.dx_sound.proofs.Scripts.{passes}
-use Rattle.dx_sound.proofs.Lists.{at_changed, map-changed_at}
+use Rattle.dx_spec.proofs.Scripts.{passes}
+use Rattle.dx_spec.proofs.Places.{at_changed, map-changed_at}
 use Rattle.dx_sound.proofs.Holding.{Parts, parts_of, IsHeldMarket, Frame, Held, StandsWell}
 use Rattle.dx_sound.proofs.Running.{mapped_true}
 use Rattle.dx_sound.proofs.Messages.{IsTold}

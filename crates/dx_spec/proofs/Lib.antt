@@ -3,3 +3,7 @@ pub mod Lists
 pub mod Maps
 pub mod Accounts
 pub mod Parts
+pub mod Scripts
+pub mod Places
+pub mod Entries
+pub mod Each

@@ -22,17 +22,18 @@ use Rattle.dx_node_spec.specs.Node.{Node, committed, next_height, speculative}
 use Rattle.dx_node_spec.specs.Placing.{Outcome, Refusal, is_newer_than, place, place_stateful, node_or, place_again}
 use Rattle.dx_node_spec.specs.Commits.{holds_as_is, again_after, stays, is_same_message, without_message, adopted, commit, replay_next, restarted}
 use Rattle.dx_spec.proofs.Steps.{ok_same}
-use Rattle.dx_sound.proofs.Scripts.{stage_passes}
+use Rattle.dx_spec.proofs.Scripts.{stage_passes, pass as goes_on}
 use Rattle.dx_sound.proofs.Both.{block_keeps_both}
 use Rattle.dx_sound.proofs.Blocks.{moves_on}
 use Rattle.dx_speculation.specs.Faithful.{IsNewest, MayRest, IsFaithful}
 use Rattle.dx_speculation.proofs.Orders.{found_alike}
-use Rattle.dx_speculation.proofs.Lists.{all_weaker, all_both, all_filter, all_pass, one_per_id-filter}
-use Rattle.dx_speculation.proofs.Forms.{goes_on, HasForm, form_parts}
+use Rattle.dx_speculation.proofs.Forms.{HasForm, form_parts}
 use Rattle.dx_speculation.proofs.Nodes.{faithful_from, faithful_beside, nothing_queued, fold_more}
 use Rattle.dx_speculation.proofs.Placing.{placing_keeps_faithful, placing_again_keeps_faithful}
 use Rattle.dx_speculation.proofs.Events.{resting_orders, speculative_is_sound}
 use Rattle.dx_speculation.proofs.Keeping.{kept-ops_step, block_keeps}
+use Rattle.dx_spec.proofs.Each.{all_weaker, all_both, all_filter, all_pass}
+use Rattle.dx_node_spec.proofs.Ids.{one_per_id-filter}
 
 -- a good form from its parts
 form_from : (p : Params) (known : Bool) (height : ℕ) (o : Order) → HasForm p known height o → is_ok (check_form p known height o) ≡ true

@@ -14,7 +14,7 @@ use Rattle.dx_spec.specs.Orders.{is_same_id}
 use Rattle.dx_spec.specs.Blocks.{most_messages}
 use Rattle.dx_spec.specs.Balance.{Balanced, Sound}
 use Rattle.dx_node_spec.specs.Refusals.{bad_until, cancels_full, pool_full, unknown_market, bad_price}
-use Rattle.dx_node_spec.specs.Book.{without}
+use Rattle.dx_node_spec.specs.Book.{without, HasOnePerId}
 use Rattle.dx_node_spec.specs.Queue.{placed_by}
 use Rattle.dx_node_spec.specs.Node.{Node, committed, next_height, speculative}
 use Rattle.dx_node_spec.specs.Placing.{refusal}
@@ -23,15 +23,15 @@ use Rattle.dx_spec.proofs.Steps.{ok_same}
 use Rattle.dx_laws.specs.Laws.{Shaped}
 use Rattle.dx_laws.proofs.Running.{Kept-ops_step}
 use Rattle.dx_sound.specs.Within.{SoundWithin, SameBase, most_paid}
-use Rattle.dx_sound.proofs.Scripts.{passes, unit_passes}
+use Rattle.dx_spec.proofs.Scripts.{passes, unit_passes}
 use Rattle.dx_sound.proofs.Trades.{account_held}
 use Rattle.dx_sound.proofs.Wholes.{own}
 use Rattle.dx_sound.proofs.Sounding.{IsWhole-Sound, SoundWithin-Sound}
 use Rattle.dx_sound.proofs.Midway.{SoundWithin-ops_step}
-use Rattle.dx_book.specs.Held.{HasOnePerId}
 use Rattle.dx_speculation.specs.Faithful.{MayRest, IsFaithful}
-use Rattle.dx_speculation.proofs.Lists.{all_filter, one_per_id-filter}
 use Rattle.dx_speculation.proofs.Nodes.{faithful_beside}
+use Rattle.dx_spec.proofs.Each.{all_filter}
+use Rattle.dx_node_spec.proofs.Ids.{one_per_id-filter}
 
 -- the orders of a faithful node's book
 pub resting_orders : (p : Node) → IsFaithful p → AllByRecursion (MayRest (speculative p) (next_height p) (placed_by p.queue)) p.book

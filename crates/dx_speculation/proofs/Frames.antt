@@ -21,8 +21,8 @@ use Rattle.dx_spec.specs.Orders.{is_same_id}
 use Rattle.dx_spec.specs.Fills.{signed, fill_side, keeps_bounds, check_fill, make_fill, fill_step}
 use Rattle.dx_spec.specs.Operations.{without_order, remove_step}
 use Rattle.dx_spec.proofs.Steps.{ok_same, if_some}
-use Rattle.dx_sound.proofs.Scripts.{passes, some_passes, stage_passes}
-use Rattle.dx_sound.proofs.Maps.{left_in, contains-insert}
+use Rattle.dx_spec.proofs.Scripts.{passes, some_passes, stage_passes}
+use Rattle.dx_spec.proofs.Entries.{left_in, contains-insert}
 use Rattle.dx_sound.proofs.Holding.{parts_of}
 use Rattle.dx_sound.proofs.Settlement.{kept-settle_step}
 use Rattle.dx_sound.proofs.Trades.{mapped_some}

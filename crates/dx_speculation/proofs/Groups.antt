@@ -1,5 +1,5 @@
 -- A group of fills, played again as a Match.
-use Rattle.std.proofs.Common.{◌≡◌, ℕ, ◌+◌, Bool, true, false, cond, List, [], ◌∷◌, ◌++◌, Option, Some, Result, Ok, ok_or, refl, sym, ap, subst, ◌∙◌}
+use Rattle.std.proofs.Common.{◌≡◌, ℕ, ◌+◌, Bool, true, false, cond, List, [], ◌∷◌, ◌++◌, Some, Ok, refl, sym, ap, subst, ◌∙◌}
 use Rattle.std.specs.List.{AllByRecursion}
 use Rattle.std.specs.FinMap.{FinMap, get}
 use Rattle.dx_types.specs.Keys.{order_id_cmp}
@@ -7,7 +7,7 @@ use Rattle.dx_types.specs.declared.Order.{Order}
 use Rattle.dx_types.specs.declared.Fill.{Fill}
 use Rattle.dx_types.specs.declared.Op.TheVariants.{Match}
 use Rattle.dx_spec.specs.Lists.{is_empty}
-use Rattle.dx_spec.specs.Step.{◌>>=◌, fail_as, try_each}
+use Rattle.dx_spec.specs.Step.{fail_as, try_each}
 use Rattle.dx_spec.specs.Codes.{unknown_taker, unknown_maker, empty_match, bad_role}
 use Rattle.dx_spec.specs.State.{State, is_short_term}
 use Rattle.dx_spec.specs.Orders.{is_post_only}
@@ -15,11 +15,10 @@ use Rattle.dx_spec.specs.Fills.{fill_step}
 use Rattle.dx_spec.specs.Operations.{Placed, at_fill, order_of, match_fill, match_step, op_step}
 use Rattle.dx_node_spec.specs.Taking.{Filled, fills_of}
 use Rattle.dx_sound.proofs.Holding.{Parts}
-use Rattle.dx_speculation.proofs.Lists.{all_weaker}
 use Rattle.dx_speculation.proofs.Frames.{parts-fill_step}
-use Rattle.dx_speculation.proofs.Runs.{stage_then}
-use Rattle.dx_speculation.proofs.Forms.{goes_on}
 use Rattle.dx_speculation.proofs.Places.{at}
+use Rattle.dx_spec.proofs.Each.{all_weaker}
+use Rattle.dx_spec.proofs.Scripts.{some_next as some_then, pass as goes_on, stage_next as stage_then}
 
 -- the fills of a group are good, and lead from s to t
 abbrev pub Plays : Order → State → List Filled → State → Type 0
@@ -30,9 +29,6 @@ pub plays_more : (o : Order) (s : State) (group : List Filled) (t : State) (make
     → fill_step t o maker amount ≡ Ok u → Plays o s (group ++ record { maker = maker; amount = amount } ∷ []) u
 plays_more o s [] t maker amount u h e = (u, subst (λ x. fill_step x o maker amount ≡ Ok u) (sym h) e, refl)
 plays_more o s (f ∷ fs) t maker amount u h e = (h.0, h.1, plays_more o h.0 fs t maker amount u h.2 e)
-
-some_then : {A B E : Type 0} (o : Option A) (x : A) (code : E) (f : A → Result B E) → o ≡ Some x → (ok_or o code >>= f) ≡ f x
-some_then o x code f e = ap (λ r. ok_or r code >>= f) e
 
 -- an order is found by its id
 abbrev pub IsFound : State → Placed → Order → Type 0

@@ -1,6 +1,5 @@
 pub mod Runs
 pub mod Orders
-pub mod Lists
 pub mod Forms
 pub mod Frames
 pub mod Places

@@ -18,27 +18,27 @@ use Rattle.dx_spec.specs.Refusals.{already_filled}
 use Rattle.dx_spec.specs.Operations.{Placed, ops_step}
 use Rattle.dx_spec.specs.Blocks.{has_too_many_ops}
 use Rattle.dx_node_spec.specs.Refusals.{not_newer, post_only_cross, queue_full, skipped}
-use Rattle.dx_node_spec.specs.Book.{left, resting, without, makers_of}
+use Rattle.dx_node_spec.specs.Book.{left, resting, without, makers_of, HasOnePerId}
 use Rattle.dx_node_spec.specs.Queue.{placed_by, holds_order}
 use Rattle.dx_node_spec.specs.Taking.{Taken, closed, closed_match, take_order}
 use Rattle.dx_node_spec.specs.Node.{Node, committed, next_height, speculative}
 use Rattle.dx_node_spec.specs.Placing.{Outcome, Refusal, refusal, is_newer_than, cancelled_until, no_cancel, would_cross, check_place, is_among, with_taken, rests, settle_order, taken_on, place, is_open, place_stateful}
 use Rattle.dx_spec.proofs.Steps.{ok_same, true_from_not, passed}
 use Rattle.dx_sound.specs.Within.{SoundWithin, IsFillable, SameBase, most_paid}
-use Rattle.dx_sound.proofs.Scripts.{passes, unit_passes, some_passes, stage_passes}
+use Rattle.dx_spec.proofs.Scripts.{passes, unit_passes, some_passes, stage_passes}
 use Rattle.dx_sound.proofs.Sounding.{SoundWithin-Sound}
 use Rattle.dx_sound.proofs.Midway.{SoundWithin-ops_step}
-use Rattle.dx_book.specs.Held.{HasOnePerId}
 use Rattle.dx_speculation.specs.Faithful.{IsNewest, IsPlaceable, MayTake, MayRest, IsFaithful}
 use Rattle.dx_speculation.proofs.Runs.{behind, runs_placed, placed_behind}
 use Rattle.dx_speculation.proofs.Orders.{found_alike}
-use Rattle.dx_speculation.proofs.Lists.{all_weaker, all_both, all_push, all_filter, all_pass, all_resting, one_per_id-filter, one_per_id-push}
 use Rattle.dx_speculation.proofs.Forms.{form_parts, good_parts, good_from, form_stays}
 use Rattle.dx_speculation.proofs.Unfilled.{room_left}
 use Rattle.dx_speculation.proofs.Taking.{IsClosed, whole_of, makers_among, one_per_id-makers, one_of, own_name, other_name}
 use Rattle.dx_speculation.proofs.Closing.{taken_of, taken_is, taking_closed, taking_is_faithful}
 use Rattle.dx_speculation.proofs.Resting.{fillable, fillable_standing, IsNext, IsUnderWay, whole_way}
 use Rattle.dx_speculation.proofs.Nodes.{faithful_with}
+use Rattle.dx_spec.proofs.Each.{all_weaker, all_both, all_push, all_filter, all_pass}
+use Rattle.dx_node_spec.proofs.Ids.{all_resting, one_per_id-filter, one_per_id-push}
 
 -- what the tests of an order that is placed, or placed again, say
 record MayPlace (p : Node) (o : Order) : Type 0 where

@@ -1,5 +1,5 @@
 -- A faithful node's proposal is good on its own blocks.
-use Rattle.std.proofs.Common.{◌≡◌, ℕ, ◌+◌, ◌<◌, ◌≤◌, true, false, not, ◌||◌, ◌==◌, nat_lt, nat_le, List, [], ◌∷◌, map, length, None, Result, Ok, refl, sym, ap, subst, ◌∙◌, arith}
+use Rattle.std.proofs.Common.{◌≡◌, ℕ, ◌+◌, ◌<◌, ◌≤◌, true, false, not, ◌||◌, ◌==◌, nat_lt, nat_le, List, [], ◌∷◌, map, length, None, Ok, refl, sym, ap, subst, ◌∙◌, arith}
 use Rattle.std.proofs.lemmas.Bool.{or_from, eq-eqb, le-ltb, leb-false}
 use Rattle.std.proofs.lemmas.List.{length-map}
 use Rattle.std.specs.List.{AllByRecursion, range_with_len}
@@ -8,7 +8,7 @@ use Rattle.dx_types.specs.declared.Msg.{Msg}
 use Rattle.dx_types.specs.declared.Vote.{Vote}
 use Rattle.dx_types.specs.declared.Block.{Block}
 use Rattle.dx_types.specs.declared.MarketInfo.{MarketInfo}
-use Rattle.dx_spec.specs.Step.{◌>>◌, fail_as}
+use Rattle.dx_spec.specs.Step.{fail_as}
 use Rattle.dx_spec.specs.Codes as codes
 use Rattle.dx_spec.specs.Bounds.{last_moment}
 use Rattle.dx_spec.specs.State.{State}
@@ -21,15 +21,10 @@ use Rattle.dx_node_spec.specs.Node.{Node, committed, speculative}
 use Rattle.dx_node_spec.specs.Placing.{refusal}
 use Rattle.dx_node_spec.specs.Proposals.{proposal, propose}
 use Rattle.dx_spec.proofs.Steps.{ok_same}
-use Rattle.dx_sound.proofs.Scripts.{passes}
+use Rattle.dx_spec.proofs.Scripts.{passes, unit_next as unit_then, pass as goes_on, stage_next as stage_then}
 use Rattle.dx_speculation.specs.Faithful.{IsFaithful, IsGoodBlock, bare}
-use Rattle.dx_speculation.proofs.Runs.{stage_then}
-use Rattle.dx_speculation.proofs.Forms.{goes_on}
 use Rattle.dx_speculation.proofs.Markets.{basis_of, is_fitting, same_fitting, bases-messages}
 use Rattle.dx_speculation.proofs.Parts.{vote_within, Voted, votes_good, sorted_rises, prices_good}
-
-unit_then : {B E : Type 0} (r : Result (Unit {0}) E) (rest : Result B E) → r ≡ Ok tt → (r >> rest) ≡ rest
-unit_then r rest e = ap (λ x. x >> rest) e
 
 -- the header of a block of the next height
 header_good : (s : State) (b : Block) → b.height ≡ s.clock.height + 1 → nat_le last_moment s.clock.height ≡ false

@@ -14,21 +14,20 @@ use Rattle.dx_spec.specs.State.{State, is_kept, is_short_term, filled_of}
 use Rattle.dx_spec.specs.Orders.{check_form, is_same_id}
 use Rattle.dx_spec.specs.Fills.{fill_step}
 use Rattle.dx_spec.specs.Operations.{without_order, remove_step}
-use Rattle.dx_node_spec.specs.Book.{left}
+use Rattle.dx_node_spec.specs.Book.{left, HasOnePerId}
 use Rattle.dx_node_spec.specs.Taking.{Taken, nothing_taken, leaves, closed, closed_match, with_fill, take_one}
 use Rattle.dx_node_spec.specs.Placing.{is_among}
 use Rattle.dx_sound.specs.Within.{SoundWithin, IsFillable, SameBase, AllPlaced}
 use Rattle.dx_sound.proofs.Running.{standing, fits_parts}
 use Rattle.dx_sound.proofs.Midway.{SoundWithin-fill_step, SoundWithin-op_step}
-use Rattle.dx_book.specs.Held.{HasOnePerId}
 use Rattle.dx_speculation.proofs.Runs.{remove_runs}
-use Rattle.dx_speculation.proofs.Lists.{all_weaker, all_both, all_fail}
 use Rattle.dx_speculation.proofs.Frames.{removed_is, removed_filled, removed_stateful}
-use Rattle.dx_speculation.proofs.Orders.{own_id, swapped_ids}
 use Rattle.dx_speculation.proofs.Forms.{form_parts}
 use Rattle.dx_speculation.proofs.Places.{one_named, at}
 use Rattle.dx_speculation.proofs.Unfilled.{fill_other}
 use Rattle.dx_speculation.proofs.Taking.{removed, Keeps, fold-keeps, whole_of}
+use Rattle.dx_spec.proofs.Each.{all_weaker, all_both, all_fail}
+use Rattle.dx_node_spec.proofs.Ids.{own_id, swapped_ids}
 
 -- an order whose form is good at a later height may be filled
 pub fillable : (s : State) (height : ℕ) (o : Order) → s.clock.height < height → is_ok (check_form s.genesis.params (is_kept s o.id.who) height o) ≡ true

@@ -14,20 +14,19 @@ use Rattle.dx_spec.specs.State.{State, is_same_account, is_short_term, is_kept, 
 use Rattle.dx_spec.specs.Orders.{is_post_only, is_same_id, crosses}
 use Rattle.dx_spec.specs.Fills.{fill_step}
 use Rattle.dx_spec.specs.Operations.{Progress, without_order, remove_step}
-use Rattle.dx_node_spec.specs.Book.{left, resting, without, is_better, is_on_side, makers_of}
+use Rattle.dx_node_spec.specs.Book.{left, resting, without, is_better, is_on_side, makers_of, HasOnePerId}
 use Rattle.dx_node_spec.specs.Queue.{placed_by, places}
 use Rattle.dx_node_spec.specs.Taking.{Filled, Taken, nothing_taken, leaves, fills_of, makers_in, closed, with_fill, with_removed, refused_maker, after_try, closed_match, take_one}
 use Rattle.dx_sound.proofs.Holding.{Parts, parts_of}
-use Rattle.dx_book.specs.Held.{HasOnePerId}
 use Rattle.dx_speculation.specs.Faithful.{IsNewest, IsPlaceable, MayTake}
 use Rattle.dx_speculation.proofs.Runs.{Runs, runs-append, runs_placed, placed_behind, remove_runs, behind}
-use Rattle.dx_speculation.proofs.Orders.{own_id, swapped_ids}
-use Rattle.dx_speculation.proofs.Lists.{all_weaker, all_both, all_push, all_filter, all_pass, all_sorted, all_fail, all_resting, one_per_id-filter, one_per_id-sorted}
 use Rattle.dx_speculation.proofs.Forms.{good_stays}
 use Rattle.dx_speculation.proofs.Frames.{Keeping, parts-fill_step, keeping-fill_step, removed_is, removed_filled, removed_stateful}
 use Rattle.dx_speculation.proofs.Places.{Fits, after_places, at, newest_stays, after_keeps, places_run, fits_after, places_place}
 use Rattle.dx_speculation.proofs.Groups.{Plays, plays_more, IsFound, found, match_runs}
 use Rattle.dx_speculation.proofs.Unfilled.{fill_other}
+use Rattle.dx_spec.proofs.Each.{all_weaker, all_both, all_push, all_filter, all_pass, all_sorted, all_fail}
+use Rattle.dx_node_spec.proofs.Ids.{own_id, swapped_ids, all_resting, one_per_id-filter, one_per_id-sorted}
 
 -- a removal behind the group that it closes
 abbrev pub removed : List Op → Order → Order → Taken → State → Taken

@@ -23,7 +23,7 @@ use Rattle.dx_spec.specs.Fills.{fill_side, keeps_bounds, check_fill, make_fill, 
 use Rattle.dx_node_spec.specs.Book.{left}
 use Rattle.dx_spec.proofs.Steps.{ok_same}
 use Rattle.dx_sound.specs.Within.{SoundWithin}
-use Rattle.dx_sound.proofs.Scripts.{passes, some_passes, stage_passes}
+use Rattle.dx_spec.proofs.Scripts.{passes, some_passes, stage_passes}
 use Rattle.dx_sound.proofs.Holding.{Frame, params_in, Held}
 use Rattle.dx_sound.proofs.Settlement.{filled-settle_step}
 use Rattle.dx_sound.proofs.Trades.{option_cases, amount_parts}

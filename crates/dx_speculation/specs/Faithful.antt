@@ -10,11 +10,10 @@ use Rattle.dx_spec.specs.Orders.{is_ioc, is_post_only, check_form}
 use Rattle.dx_spec.specs.Operations.{Placed, is_good_order, ops_step}
 use Rattle.dx_spec.specs.Blocks.{most_messages, has_too_many_ops, fold_from, block_step}
 use Rattle.dx_spec.specs.Balance.{Balanced, Sound}
-use Rattle.dx_node_spec.specs.Book.{left, makers_of}
+use Rattle.dx_node_spec.specs.Book.{left, makers_of, HasOnePerId}
 use Rattle.dx_node_spec.specs.Queue.{placed_by, holds_order}
 use Rattle.dx_node_spec.specs.Node.{Node, committed, next_height, speculative}
 use Rattle.dx_node_spec.specs.Placing.{is_newer_than}
-use Rattle.dx_book.specs.Held.{HasOnePerId}
 
 -- the order is placed as it is, or is newer than the placed one of its id, if there is one
 abbrev pub IsNewest : Placed → Order → Type 0

@@ -8,8 +8,7 @@
 //! state as it is. Every event of a node but a sweep keeps it faithful, and what a faithful node proposes is
 //! never refused by a node with the same blocks.
 //!
-//! The crate stands on `dx_sound`, whose laws keep the speculative state sound while orders are taken, and on
-//! `dx_book` for what one order per id means.
+//! The crate stands on `dx_sound`, whose laws keep the speculative state sound while orders are taken.
 #![tactic(auto)]
 
 ghost use Rattle.dx_speculation.specs.Laws.{TakingIsFaithful, NewNodeIsFaithful, PlacingKeepsFaithful, EmptiedIsFaithful, CancellingKeepsFaithful, CancellingAllKeepsFaithful, PoolingKeepsFaithful, FeedingKeepsFaithful, CommittingKeepsFaithful, ReplayingKeepsFaithful, RestartingIsFaithful, SpeculativeIsSound, ProposalIsGood, BareProposalIsGood};

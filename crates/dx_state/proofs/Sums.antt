@@ -5,7 +5,6 @@ use Rattle.std.proofs.lemmas.List.Elements.{All-from_recursion, recursion_from_A
 use Rattle.std.proofs.lemmas.Bool.Decides.{nat_tests}
 use Rattle.std.specs.Prelude.{ℤ, Some, find}
 use Rattle.std.specs.List.{AllByRecursion}
-use Rattle.dx_state.proofs.Each.{all_weaker}
 use Rattle.arrayvec.specs.ArrayVec.{ArrayVec}
 use Rattle.std.specs.FinMap.{entries}
 use Rattle.dx_maps.proofs.Entries.{entries_found}
@@ -21,6 +20,7 @@ use Rattle.dx_spec.specs.Balance.{IsSoundPosition, IsSoundAccount, IsSoundMarket
 use Rattle.dx_spec.specs.Genesis.{IsGenesis}
 use Rattle.dx_state.specs.declared.market.Market.{Market}
 use Rattle.dx_state.specs.Summing.{IsBoundedPosition, IsBoundedAccount, IsBoundedMarket, IsSummable}
+use Rattle.dx_spec.proofs.Each.{all_weaker}
 
 -- what is found in a list has what each element has
 pub found_has : {X : Type 0} (P : X → Type 0) (test : X → Bool) (xs : List X) (x : X) → AllByRecursion P xs → find test xs ≡ Some x → P x

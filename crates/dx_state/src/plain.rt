@@ -18,6 +18,7 @@ use crate::tables::{
 use arrayvec::ArrayVec;
 use dx_ledger::{Branch, Ledger, LedgerFault};
 use dx_maps::{first_key, get, get_copy, insert, len, remove};
+use dx_types::limits::{FUNDING_EPOCH, SAMPLE_EPOCH};
 use dx_types::{
     Account, Audit, Clock, FillRecord, Funds, Genesis, List, MarketAudit, MarketInfo, MarketParams,
     Markets, NoMemory, Offset, Order, OrderId, Params, SubaccountId,
@@ -25,12 +26,6 @@ use dx_types::{
 use std::alloc::{AllocError, Global};
 use std::collections::BTreeMap;
 use std::marker::Model;
-
-/// Seconds from one sample tick to the next.
-const SAMPLE_EPOCH: u32 = 60;
-
-/// Seconds from one funding tick to the next.
-const FUNDING_EPOCH: u32 = 3600;
 
 /// A state in plain ordered maps. Contracts see its content.
 #[derive(Debug, Drop)]

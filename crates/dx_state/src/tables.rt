@@ -5,12 +5,10 @@ ghost use Rattle.dx_types.specs.Keys.{subaccount_cmp};
 ghost use Rattle.dx_spec.specs.Bounds.{most_accounts};
 
 use dx_maps::{MapKey, contains, len};
+use dx_types::limits::MOST_ACCOUNTS;
 use dx_types::{Account, FillRecord, List, NoMemory, Order, OrderId, SubaccountId};
 use std::alloc::Global;
 use std::collections::BTreeMap;
-
-/// A state may keep so many accounts.
-const MOST_ACCOUNTS: usize = 65_536;
 
 /// Whether an account would be one more than may be kept.
 pub(crate) fn is_full_for(accounts: &BTreeMap<SubaccountId, Account>, who: SubaccountId) -> bool

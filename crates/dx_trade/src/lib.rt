@@ -18,7 +18,7 @@ mod refusals;
 mod sides;
 mod trading;
 
-pub use checks::{filled_of, keeps_bounds, market_for, overfills};
+pub use checks::{filled_of, is_bounded_worth, keeps_bounds, market_for, overfills};
 pub use refusals::Refusal;
 pub use sides::fill_side;
 pub use trading::{size_in, trade};

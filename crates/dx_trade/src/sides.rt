@@ -4,7 +4,7 @@ ghost use Rattle.std.specs.Prelude.{◌≡◌, ◌<◌, ◌≤◌, ◌+◌, ◌^
 ghost use Rattle.dx_spec.specs.Codes.{bound};
 ghost use Rattle.dx_spec.specs.Accounts.{trade as trade_in};
 ghost use Rattle.std.specs.Option.{option_map_or};
-ghost use Rattle.dx_spec.specs.State.{is_short_term as is_short_term_id, filled_of};
+ghost use Rattle.dx_spec.specs.State.{filled_of};
 ghost use Rattle.dx_spec.specs.Bounds.{is_fund};
 ghost use Rattle.dx_spec.specs.Fills.{signed as signed_by, with_filled, fill_side as side_in};
 ghost use Rattle.dx_ledger.specs.Marks.{KeepsMarks};
@@ -17,10 +17,7 @@ use crate::trading::trade;
 use dx_fees::{charge, pay};
 use dx_ledger::{Ledger, OpFault};
 use dx_num::{difference, negative};
-use dx_types::{Charge, FillRecord, Funds, NoMemory, Order, OrderId};
-
-/// The flags of a short-term order.
-const SHORT_TERM: u32 = 0;
+use dx_types::{Charge, FillRecord, Funds, NoMemory, Order};
 
 /// The change of a size by an amount that is bought, or sold.
 fn size_change(buy: bool, amount: u64) -> i64
@@ -76,13 +73,6 @@ fn receive<L: Ledger>(l: &mut L, c: &Charge) -> Result<(), OpFault>
     Ok(())
 }
 
-/// Whether an order ends by a height.
-fn is_short_term(id: &OrderId) -> bool
-    ensures { result ≡ is_short_term_id id.now }
-{
-    id.flags == SHORT_TERM
-}
-
 /// How much a record says is filled, 0 where there is none.
 fn amount_of(kept: Option<FillRecord>) -> u64
     ensures { result ≡ option_map_or (λ r. r.amount) kept 0 }
@@ -112,7 +102,7 @@ fn filled_after(before: Option<FillRecord>, o: &Order, amount: u64) -> FillRecor
     let _size = o.size;
     FillRecord {
         amount: amount_of(before) + amount,
-        until: if is_short_term(&o.id) {
+        until: if o.id.is_short_term() {
             until_of(before).max(o.until)
         } else {
             0

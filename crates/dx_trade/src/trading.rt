@@ -14,7 +14,7 @@ ghost use Rattle.dx_trade.specs.Conditions.{CanTrade};
 
 use crate::refusals::Refusal;
 use dx_accounts::{account_of, shift};
-use dx_ledger::{Ledger, OpFault};
+use dx_ledger::{Ledger, LedgerFault, OpFault};
 use dx_types::{Account, MarketInfo, NoMemory, Position, SubaccountId};
 
 /// The size of the position in a market, 0 where there is none: base quantums.
@@ -85,7 +85,8 @@ fn keep<L: Ledger>(l: &mut L, who: SubaccountId, a: &Account) -> Result<(), NoMe
 {
     match l.set_account(who, a) {
         Ok(()) => Ok(()),
-        Err(_) => Err(NoMemory),
+        Err(LedgerFault::NoMemory) => Err(NoMemory),
+        Err(LedgerFault::Accounts) => unreachable!(),
     }
 }
 

@@ -4,7 +4,8 @@
 //! It stands on `dx_maps`, whose maps its names are keys of. Fields are public, and contracts see
 //! each type as the record of its fields, and a [`List`] as the list of its elements. What a copy
 //! gives is equal to what it copies. The types keep no bounds by themselves: the bounds named below
-//! hold in every state that the rules reach, and are the limits table of docs/RULES.md.
+//! hold in every state that the rules reach, and are the limits table of docs/RULES.md; [`limits`] has
+//! those that code tests by.
 //!
 //! Units. Sizes and amounts are in base quantums, money in quote quantums, order prices in
 //! subticks, market prices in the market's own price unit, rates and shares in parts per million
@@ -14,15 +15,18 @@
 mod accounts;
 mod copies;
 mod keys;
+pub mod limits;
 mod list;
 mod markets;
 mod no_memory;
+mod orders;
 mod status;
 
 use arrayvec::ArrayVec;
 pub use list::List;
 pub use markets::Markets;
 pub use no_memory::NoMemory;
+pub use orders::{SHORT_TERM, STATEFUL};
 pub use status::Status;
 
 /// The name of an account: one of an owner's subaccounts. Ordered by owner, then by number.

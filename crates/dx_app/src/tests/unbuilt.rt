@@ -5,18 +5,12 @@ use dx_types::Status;
 use std::test::Fail;
 
 /// Second lines, with the place of what is not built in each.
-const UNBUILT: [(&str, u32); 18] = [
-    (r#"["place",0,[1,0,1,0,0,1,1000000,5000000000,10,0]]"#, 0),
+const UNBUILT: [(&str, u32); 12] = [
     (r#"["cancel",0,[1,0,1,0],10]"#, 0),
     (r#"["cancelall",0,[1,0]]"#, 0),
     (r#"["message",0,[1,[1,0],5]]"#, 0),
-    (r#"["feed",0,0,5000000000]"#, 0),
     (r#"["sweep",0,[1,0]]"#, 0),
-    (r#"["propose",0,0,1]"#, 0),
     (r#"["show",0]"#, 0),
-    (r#"["spec",0,[1,0]]"#, 0),
-    (r#"["filled",0,[1,0,1,0,0]]"#, 0),
-    (r#"["best",0,0]"#, 0),
     (r#"["digest",0]"#, 0),
     (r#"["restart",0]"#, 0),
     (

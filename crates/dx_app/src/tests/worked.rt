@@ -80,7 +80,7 @@ const FIRST_BAD_REPLIES: &str = "1 genesis 0 0
 ";
 
 /// Runs a scenario to its end. True says that just the replies are written.
-fn is_answered(alloc: Global, input: &str, replies: &str) -> Result<bool, Fail> {
+pub(super) fn is_answered(alloc: Global, input: &str, replies: &str) -> Result<bool, Fail> {
     let (status, sink) = outcome(alloc, input.as_bytes(), &[])?;
     Ok(status == Status::Done && sink.bytes() == replies.as_bytes())
 }

@@ -1,6 +1,5 @@
-use Rattle.std.proofs.Common.{◌≡◌, sym, ap, subst, ◌∙◌, refl, true, false, Some, IfErr, rules}
-use Rattle.dx_spec.specs.Codes.{bound}
-use Rattle.dx_spec.specs.Fills.{fill_side, keeps_bounds, make_fill}
+use Rattle.std.proofs.Common.{◌≡◌, sym, subst, ◌∙◌, refl, Some, IfErr, rules}
+use Rattle.dx_spec.specs.Fills.{fill_side, make_fill}
 use Rattle.dx_trade.specs.Refusals.{IsFaultOf}
 use Rattle.dx_trade.specs.Stages.{bounded_side}
 use Rattle.dx_trade.proofs.Steps.{if_err}

@@ -1,7 +1,7 @@
 use Rattle.std.proofs.Common.{sym, ◌∙◌}
-use Rattle.dx_trade.proofs.Steps.{then_ok}
 use Rattle.dx_match.proofs.Notes.{pushed, noted_gone}
 use Rattle.dx_match.proofs.stepping.note_fill.Goals as goal
+use Rattle.dx_accounts.proofs.Settled.{then_ok}
 
 pub returns-then-left-eq0-clause-ok : goal.returns-then-left-eq0-clause-ok
 returns-then-left-eq0-clause-ok g c =

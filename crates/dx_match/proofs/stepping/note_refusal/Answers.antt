@@ -1,8 +1,8 @@
 use Rattle.std.proofs.Common.{◌∙◌, subst, ◌≢◌}
-use Rattle.dx_trade.proofs.Steps.{then_ok}
 use Rattle.dx_match.specs.Seen.{seen}
 use Rattle.dx_match.proofs.Notes.{noted_risk, noted_stop}
 use Rattle.dx_match.proofs.stepping.note_refusal.Goals as goal
+use Rattle.dx_accounts.proofs.Settled.{then_ok}
 
 pub returns-then-code-number-clause-ok : goal.returns-then-code-number-clause-ok
 returns-then-code-number-clause-ok c =

@@ -1,8 +1,8 @@
 use Rattle.std.proofs.Common.{sym, ◌∙◌}
-use Rattle.dx_trade.proofs.Steps.{then_ok}
 use Rattle.dx_match.specs.Seen.{seen}
 use Rattle.dx_match.proofs.Turns.{takes_other}
 use Rattle.dx_match.proofs.stepping.take.Goals as goal
+use Rattle.dx_accounts.proofs.Settled.{then_ok}
 
 pub returns-clause-ok : goal.returns-clause-ok
 returns-clause-ok g c =

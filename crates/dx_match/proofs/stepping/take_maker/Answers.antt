@@ -1,9 +1,9 @@
 use Rattle.std.proofs.Common.{sym, ◌∙◌}
-use Rattle.dx_trade.proofs.Steps.{then_ok}
 use Rattle.dx_match.specs.Seen.{seen}
 use Rattle.dx_match.proofs.Amounts.{room_left}
 use Rattle.dx_match.proofs.Notes.{takes_own, takes_filled}
 use Rattle.dx_match.proofs.stepping.take_maker.Goals as goal
+use Rattle.dx_accounts.proofs.Settled.{then_ok}
 
 pub returns-then-is_same_account-clause-ok : goal.returns-then-is_same_account-clause-ok
 returns-then-is_same_account-clause-ok g c =

@@ -1,8 +1,8 @@
-use Rattle.dx_trade.proofs.Steps.{then_ok}
 use Rattle.dx_match.specs.Seen.{seen}
 use Rattle.dx_match.proofs.Amounts.{filled_within}
 use Rattle.dx_match.proofs.Notes.{tried_good}
 use Rattle.dx_match.proofs.stepping.try_maker.Goals as goal
+use Rattle.dx_accounts.proofs.Settled.{then_ok}
 
 pub returns-in-Ok-clause-ok : goal.returns-in-Ok-clause-ok
 returns-in-Ok-clause-ok g c =

@@ -1,8 +1,9 @@
 use Rattle.std.proofs.Common.{sym, subst, ◌∙◌}
-use Rattle.dx_trade.proofs.Steps.{then_ok, if_err}
+use Rattle.dx_trade.proofs.Steps.{if_err}
 use Rattle.dx_node.specs.Faults.{PlaceRefused}
 use Rattle.dx_node.proofs.Testing.{place_tested}
 use Rattle.dx_node.proofs.checks.check_place.Goals as goal
+use Rattle.dx_accounts.proofs.Settled.{then_ok}
 
 pub returns-clause-ok : goal.returns-clause-ok
 returns-clause-ok c =

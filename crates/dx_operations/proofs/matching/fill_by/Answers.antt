@@ -1,10 +1,10 @@
 use Rattle.std.proofs.Common.{◌^◌}
 use Rattle.dx_maps.specs.Tables.{map_of}
 use Rattle.dx_types.specs.Keys.{order_id_cmp}
-use Rattle.dx_trade.proofs.Steps.{then_ok}
 use Rattle.dx_operations.proofs.Standing.{midway_filled, tradable_filled}
 use Rattle.dx_operations.proofs.Turns.{both_ok}
 use Rattle.dx_operations.proofs.matching.fill_by.Goals as goal
+use Rattle.dx_accounts.proofs.Settled.{then_ok}
 
 pub returns-clause-midway : goal.returns-clause-midway
 returns-clause-midway g c =

@@ -1,8 +1,9 @@
 use Rattle.dx_types.specs.Keys.{order_id_cmp}
 use Rattle.dx_maps.specs.Tables.{map_of}
-use Rattle.dx_trade.proofs.Steps.{then_ok, if_err}
+use Rattle.dx_trade.proofs.Steps.{if_err}
 use Rattle.dx_operations.proofs.Turns.{op_placed, op_not_placed, op_matched, op_not_matched}
 use Rattle.dx_operations.proofs.operations.apply_operation.Goals as goal
+use Rattle.dx_accounts.proofs.Settled.{then_ok}
 
 pub returns-in-Place-clause-ok : goal.returns-in-Place-clause-ok
 returns-in-Place-clause-ok g c =

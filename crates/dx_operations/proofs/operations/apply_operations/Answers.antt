@@ -1,9 +1,10 @@
 use Rattle.dx_types.specs.Keys.{order_id_cmp}
 use Rattle.dx_maps.specs.Tables.{map_of}
-use Rattle.dx_trade.proofs.Steps.{then_ok, if_err}
+use Rattle.dx_trade.proofs.Steps.{if_err}
 use Rattle.dx_operations.proofs.Standing.{new_table, midway_first}
 use Rattle.dx_operations.proofs.Turns.{ops_done, ops_bad}
 use Rattle.dx_operations.proofs.operations.apply_operations.Goals as goal
+use Rattle.dx_accounts.proofs.Settled.{then_ok}
 
 pub apply_all-requires-clause-midway : goal.apply_all-requires-clause-midway
 apply_all-requires-clause-midway g c =

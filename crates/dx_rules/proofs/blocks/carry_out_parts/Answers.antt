@@ -6,8 +6,9 @@ use Rattle.dx_spec.specs.Messages.{messages}
 use Rattle.dx_spec.specs.Blocks.{prices_step}
 use Rattle.dx_operations.specs.Faults.{Refuses}
 use Rattle.dx_trade.proofs.Steps.{if_err}
-use Rattle.dx_rules.proofs.Blocking.{is_next, ready_behind, later_behind, ending_behind, operation_fault, price_fault, good_block, IsSettled-block}
+use Rattle.dx_rules.proofs.Blocking.{ready_behind, later_behind, ending_behind, operation_fault, price_fault, good_block, IsSettled-block}
 use Rattle.dx_rules.proofs.blocks.carry_out_parts.Goals as goal
+use Rattle.dx_sound.proofs.Blocks.{next as is_next}
 
 pub apply_operations-requires-clause-next : goal.apply_operations-requires-clause-next
 apply_operations-requires-clause-next g c = (is_next (g.L.Ledger.content c.args.l.now) c.args.block.now c.requires.header).height

@@ -1,5 +1,6 @@
 use Rattle.std.proofs.Common.{sym, ◌∙◌, ap, subst}
-use Rattle.dx_book.specs.Held.{Held, HasOnePerId}
+use Rattle.dx_book.specs.Held.{Held}
+use Rattle.dx_node_spec.specs.Book.{HasOnePerId}
 use Rattle.dx_book.proofs.Keys.{first_found}
 use Rattle.dx_book.proofs.book.Book.first.Goals as goal
 

@@ -1,4 +1,4 @@
-use Rattle.dx_cluster.specs.World.{tell_audit}
+use Rattle.dx_cluster.specs.Acts.{tell_audit}
 use Rattle.dx_cluster.proofs.Worlds.{has_told}
 use Rattle.dx_cluster.proofs.cluster.Cluster.audit.Goals as goal
 

@@ -1,6 +1,6 @@
 use Rattle.std.proofs.Common.{refl}
 use Rattle.std.proofs.lemmas.Result.{IfOk-weaker}
-use Rattle.dx_cluster.specs.World.{check_slot}
+use Rattle.dx_cluster.specs.Acts.{check_slot}
 use Rattle.dx_cluster.proofs.Worlds.{slot_empty, slot_acted}
 use Rattle.dx_cluster.proofs.cluster.Cluster.check.Goals as goal
 

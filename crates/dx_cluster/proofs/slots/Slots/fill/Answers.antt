@@ -1,4 +1,4 @@
-use Rattle.dx_cluster.proofs.Holding.{AllBuilt-insert}
+use Rattle.dx_cluster.proofs.Storing.{AllBuilt-insert}
 use Rattle.dx_cluster.proofs.slots.Slots.fill.Goals as goal
 
 pub invariant_of-self-2 : goal.invariant_of-self-2

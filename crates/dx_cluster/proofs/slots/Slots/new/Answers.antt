@@ -1,5 +1,5 @@
 use Rattle.std.proofs.Common.{rules}
-use Rattle.dx_cluster.proofs.Holding.{AllBuilt-empty}
+use Rattle.dx_cluster.proofs.Storing.{AllBuilt-empty}
 use Rattle.dx_cluster.proofs.slots.Slots.new.Goals as goal
 
 pub invariant_of-result : goal.invariant_of-result

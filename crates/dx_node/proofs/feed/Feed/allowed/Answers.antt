@@ -4,5 +4,5 @@ use Rattle.dx_node.specs.Fed.{prices_for}
 use Rattle.dx_node.proofs.Feeding.{allowed_are}
 use Rattle.dx_node.proofs.feed.Feed.allowed.Goals as goal
 
-pub returns : goal.returns
-returns c = IfOk-weaker c.allowed.result _ _ (λ list e. e ∙ allowed_are c.args.state.now c.self.inside.prices ∙ ap (prices_for c.args.state.now) c.self.view_is) c.allowed.ensures
+pub returns-clause-all : goal.returns-clause-all
+returns-clause-all c = IfOk-weaker c.allowed.result _ _ (λ list e. e ∙ allowed_are c.args.state.now c.self.inside.prices ∙ ap (prices_for c.args.state.now) c.self.view_is) c.allowed.ensures.all

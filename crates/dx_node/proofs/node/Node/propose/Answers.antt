@@ -15,10 +15,10 @@ pub returns-in-Ok-clause-ok : goal.returns-in-Ok-clause-ok
 returns-in-Ok-clause-ok c =
     let may : may_propose c.self.inside.committed.clock c.args.time ≡ Ok tt = search rules in
     λ p st. proposed_good _ c.args.self.now p c.args.time c.in-Ok.block c.self.view_is c.self.invariant may
-    (c.in-Ok.ensures ∙ ap (λ (h : Held). proposed h c.args.time) (sym c.self.view_is)) st
+    (c.in-Ok.ensures.is ∙ ap (λ (h : Held). proposed h c.args.time) (sym c.self.view_is)) st
 
 pub returns-in-Ok-clause-good : goal.returns-in-Ok-clause-good
 returns-in-Ok-clause-good c =
     let may : may_propose c.self.inside.committed.clock c.args.time ≡ Ok tt = search rules in
     λ p st. proposal_good _ c.args.self.now p c.args.time c.in-Ok.block c.self.view_is c.self.invariant may
-    (c.in-Ok.ensures ∙ ap (λ (h : Held). proposed h c.args.time) (sym c.self.view_is)) st
+    (c.in-Ok.ensures.is ∙ ap (λ (h : Held). proposed h c.args.time) (sym c.self.view_is)) st
