@@ -20,7 +20,7 @@ use Rattle.dx_spec.specs.Bounds.{most_orders}
 use Rattle.dx_spec.specs.Orders.{is_ioc, is_post_only, is_same_id, check_form, is_filled_up}
 use Rattle.dx_spec.specs.Refusals.{already_filled}
 use Rattle.dx_spec.specs.Operations.{ops_step}
-use Rattle.dx_spec.specs.Blocks.{fold_from}
+use Rattle.dx_spec.specs.Blocks.{fold_from, has_too_many_ops}
 use Rattle.dx_spec.proofs.Steps.{ok_same, passed}
 use Rattle.dx_spec.proofs.Scripts.{passes, unit_passes, pass as goes_on, ok_answer}
 use Rattle.dx_accounts.specs.Steady.{IsSteady}
@@ -35,6 +35,7 @@ use Rattle.dx_node_spec.specs.Node.{Node, next_height, committed, speculative}
 use Rattle.dx_node_spec.specs.Placing as whole
 use Rattle.dx_node_spec.specs.Placing.{Outcome, AllFilled, Rested, Dropped, Stopped, Refusal, refusal, is_among, is_newer_than, cancelled_until, no_cancel, would_cross, rests, settle_order, with_taken, taken_on}
 use Rattle.dx_speculation.specs.Faithful.{IsPlaceable, MayTake, MayRest, IsFaithful}
+use Rattle.dx_speculation.proofs.Closing.{taken_is}
 use Rattle.dx_speculation.proofs.Forms.{form_parts, good_from}
 use Rattle.dx_speculation.proofs.Unfilled.{room_left}
 use Rattle.dx_speculation.proofs.Closing.{taking_is_faithful}
@@ -407,3 +408,9 @@ not_resting g h height o v e = absent g.speculative g.book g.queue height o e
 -- the next height fits 32 bits
 pub height_fits : (s : State) → IsSettled s → s.clock.height + 1 < 2 ^ 32
 height_fits s k = let h = k.sound.clock.height in omega (arith, h)
+
+-- what an order takes keeps the limits of the queue
+pub taken_within : (s : State) (book : List Order) (queue : List Op) (o : Order) (t : Taken) → take_order s book queue o ≡ Some t → has_too_many_ops (queue ++ t.ops) ≡ false
+taken_within s book queue o t e =
+    let r = taken_is s book queue o t e in
+    subst (λ (u : Taken). has_too_many_ops (queue ++ u.ops) ≡ false) r.1 r.0

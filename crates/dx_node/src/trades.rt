@@ -17,7 +17,7 @@ use crate::placed::Placed;
 use dx_book::Book;
 use dx_match::{TakeFault, Taken, left, match_order};
 use dx_orders::is_ioc;
-use dx_queue::Queue;
+use dx_queue::{Queue, QueueFault};
 use dx_state::PlainState;
 use dx_types::limits::MOST_ORDERS;
 use dx_types::{Order, OrderId};
@@ -125,8 +125,9 @@ pub(crate) fn take(
     let placed = goes_to(state, book, o, &taken)?;
     match queue.push(&taken.ops) {
         Ok(()) => Ok(Trade { taken, placed }),
+        Err(QueueFault::NoMemory) => Err(PlaceFault::NoMemory),
         // `matched` has tested the limits.
-        Err(_) => Err(PlaceFault::NoMemory),
+        Err(QueueFault::Full) => unreachable!(),
     }
 }
 
