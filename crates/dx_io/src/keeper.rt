@@ -54,13 +54,15 @@ pub trait Keeper {
 
     /// Sets one row, and leaves all others.
     fn put(&mut self, node: u32, height: u32, bytes: &[u8]) -> Result<(), KeepError>
-        ensures set { OnOk result (SetsRow (rows self.old) (rows self.new) (record { node = node; height = height }) bytes.now) }
+        ensures set { OnOk result (SetsRow (rows self.old) (rows self.new)
+            (record { node = node; height = height }) bytes.now) }
         ensures err { OnErr result (SameRows (rows self.old) (rows self.new)) }
         ensures cause { KeepCause (faults self.old) (faults self.new) result };
 
     /// The bytes of a row, if it is there. The rows stay as they are.
     fn get(&mut self, node: u32, height: u32) -> Result<Option<Vec<u8>>, KeepError>
-        ensures found { IfOk result (λ row. FindsRow (rows self.old) (record { node = node; height = height }) (option_map (λ bytes. bytes.items) row)) }
+        ensures found { IfOk result (λ row. FindsRow (rows self.old)
+            (record { node = node; height = height }) (option_map (λ bytes. bytes.items) row)) }
         ensures kept { SameRows (rows self.old) (rows self.new) }
         ensures cause { KeepCause (faults self.old) (faults self.new) result };
 

@@ -49,7 +49,8 @@ impl Keeper for MemKeeper {
     ghost faults = { λ k. k.plan.faults };
 
     fn put(&mut self, node: u32, height: u32, bytes: &[u8]) -> Result<(), KeepError>
-        ensures set { OnOk result (SetsRow (Some self.old.rows) (Some self.new.rows) (record { node = node; height = height }) bytes.now) }
+        ensures set { OnOk result (SetsRow (Some self.old.rows) (Some self.new.rows)
+            (record { node = node; height = height }) bytes.now) }
         ensures err { OnErr result (SameRows (Some self.old.rows) (Some self.new.rows)) }
         ensures cause { KeepCause self.old.plan.faults self.new.plan.faults result }
 
@@ -64,7 +65,8 @@ impl Keeper for MemKeeper {
     }
 
     fn get(&mut self, node: u32, height: u32) -> Result<Option<Vec<u8>>, KeepError>
-        ensures found { IfOk result (λ row. FindsRow (Some self.old.rows) (record { node = node; height = height }) (option_map (λ bytes. bytes.items) row)) }
+        ensures found { IfOk result (λ row. FindsRow (Some self.old.rows)
+            (record { node = node; height = height }) (option_map (λ bytes. bytes.items) row)) }
         ensures kept { SameRows (Some self.old.rows) (Some self.new.rows) }
         ensures cause { KeepCause self.old.plan.faults self.new.plan.faults result }
 

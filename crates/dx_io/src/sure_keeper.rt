@@ -74,7 +74,8 @@ impl Keeper for SureKeeper {
     ghost faults = { λ _. 0 };
 
     fn put(&mut self, node: u32, height: u32, bytes: &[u8]) -> Result<(), KeepError>
-        ensures set { OnOk result (SetsRow (Some self.old) (Some self.new) (record { node = node; height = height }) bytes.now) }
+        ensures set { OnOk result (SetsRow (Some self.old) (Some self.new)
+            (record { node = node; height = height }) bytes.now) }
         ensures err { OnErr result (SameRows (Some self.old) (Some self.new)) }
         ensures cause { KeepCause 0 0 result }
 
@@ -87,7 +88,8 @@ impl Keeper for SureKeeper {
     }
 
     fn get(&mut self, node: u32, height: u32) -> Result<Option<Vec<u8>>, KeepError>
-        ensures found { IfOk result (λ row. FindsRow (Some self.old) (record { node = node; height = height }) (option_map (λ bytes. bytes.items) row)) }
+        ensures found { IfOk result (λ row. FindsRow (Some self.old)
+            (record { node = node; height = height }) (option_map (λ bytes. bytes.items) row)) }
         ensures kept { SameRows (Some self.old) (Some self.new) }
         ensures cause { KeepCause 0 0 result }
 

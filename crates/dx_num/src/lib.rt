@@ -5,7 +5,8 @@
 //! them. The functions compute them in `i128`, and no call takes memory, fails or wraps.
 //!
 //! - [`floor_div`], [`ceil_div`] and [`trunc_div`] round a quotient down, up and toward zero;
-//! - [`mul_pow10_floor`] scales by a power of ten and rounds down, [`ppm_up`] takes parts per million and rounds up;
+//! - [`power_of_ten`] is one, [`mul_pow10_floor`] scales by one and rounds down, and [`ppm_up`] takes parts per million
+//!   and rounds up;
 //! - [`product`], [`total`], [`difference`] and [`negative`] are exact, under a condition on the magnitudes by which
 //!   the result fits. Each also says what the magnitude of its result is, so that bounds go from call to call.
 //!
@@ -22,4 +23,4 @@ mod tests;
 
 pub use arithmetic::{difference, magnitude, negative, product, total};
 pub use division::{ceil_div, floor_div, trunc_div};
-pub use scaling::{mul_pow10_floor, ppm_up};
+pub use scaling::{mul_pow10_floor, power_of_ten, ppm_up};

@@ -6,9 +6,9 @@ ghost use Rattle.dx_num.specs.Rounding.{floor_ten, ppm_up as parts_up};
 use super::arithmetic::product;
 use super::division::{ceil_div, floor_div};
 
-/// A power of ten.
+/// The power of ten of `n`, which is at most 18.
 #[tactic(auto, using(crate::proofs::Products::ten_positive))]
-fn power_of_ten(n: u32) -> i128
+pub fn power_of_ten(n: u32) -> i128
     requires { n ≤ 18 }
     ensures value { result ≡ pos (10 ^ n) }
     ensures positive { pos 0 <ℤ result }

@@ -1,6 +1,6 @@
 //! The tests of an order against its account, its market and the present height or time.
 
-ghost use Rattle.std.specs.Prelude.{◌≡◌};
+ghost use Rattle.std.specs.Prelude.{◌≡◌, ◌≢◌};
 ghost use Rattle.dx_spec.specs.Orders.{fits_market as is_fitting, step_of as step_in, is_filled_up as has_no_step, check_form as form_test, check_order as order_test, is_good_stateful};
 ghost use Rattle.dx_orders.specs.Faults.{Answers};
 
@@ -33,17 +33,26 @@ fn step_of(p: &Params, id: &OrderId) -> u64
     }
 }
 
-/// Whether less than one step is left of the order.
-fn is_filled_up(p: &Params, filled: u64, o: &Order) -> bool
+/// Whether less than one step of its market is left of an order of which `filled` base quantums are
+/// filled ("Short-term order tests" in docs/RULES.md). An unknown market has a step of 0. Any numbers may
+/// be handed in: nothing wraps.
+pub fn is_filled_up(p: &Params, filled: u64, o: &Order) -> bool
     ensures { result ≡ has_no_step p.now filled o.now }
 {
     u128::from(filled) + u128::from(step_of(p, &o.id)) > u128::from(o.size)
 }
 
-/// The tests of a short-term order that need no record of what is filled.
+/// The tests of a short-term order at a height that need no record of what is filled ("Short-term order
+/// tests" in docs/RULES.md). `known` says whether its account is kept.
+///
+/// The fault is the first test that fails, in this order: `BadOrder` where its flags are not 0, its
+/// account is not kept, or its market, size or subticks are not as they must be; `TooFar` where it ends
+/// more than 20 heights later; `Expired` where it ended before the height. It never answers
+/// `AlreadyFilled`.
 #[tactic(auto, unfolding(dx_spec::specs::Orders::check_form))]
-fn check_form(p: &Params, known: bool, height: u32, o: &Order) -> Result<(), OrderFault>
-    ensures { Answers result (form_test p.now known height o.now) }
+pub fn check_form(p: &Params, known: bool, height: u32, o: &Order) -> Result<(), OrderFault>
+    ensures form { Answers result (form_test p.now known height o.now) }
+    ensures unfilled { result ≢ Err OrderFault.AlreadyFilled }
 {
     if !(o.id.is_short_term() && fits_market(p, known, o)) {
         return Err(OrderFault::BadOrder);

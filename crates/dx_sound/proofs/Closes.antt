@@ -27,7 +27,7 @@ use Rattle.dx_sound.proofs.Fills.{MarketFor, markets_for, amount_in, opened, clo
 use Rattle.dx_laws.proofs.Filling.{fill_side-insurance as insurance-fill_side}
 
 -- an account that is liquidatable is kept
-liquidatable_kept : (s : State) (who : SubaccountId) → is_liquidatable (risk_of s who) ≡ true → is_kept s who ≡ true
+pub liquidatable_kept : (s : State) (who : SubaccountId) → is_liquidatable (risk_of s who) ≡ true → is_kept s who ≡ true
 unfolding risk is_liquidatable
 liquidatable_kept s who e =
     elim (get s.accounts who) as (λ o. is_liquidatable (risk s.markets (unwrap_or o no_account)) ≡ true → is_some o ≡ true) [
@@ -36,7 +36,7 @@ liquidatable_kept s who e =
     ] e
 
 -- one that has less than nothing is
-negative_kept : (s : State) (who : SubaccountId) → is_negative (risk_of s who) ≡ true → is_kept s who ≡ true
+pub negative_kept : (s : State) (who : SubaccountId) → is_negative (risk_of s who) ≡ true → is_kept s who ≡ true
 unfolding risk is_negative
 negative_kept s who e =
     elim (get s.accounts who) as (λ o. is_negative (risk s.markets (unwrap_or o no_account)) ≡ true → is_some o ≡ true) [
@@ -45,7 +45,7 @@ negative_kept s who e =
     ] e
 
 -- one with a size is
-sized_kept : (s : State) (who : SubaccountId) (k n : ℕ) → 0 < n → n ≤ unsigned_abs (size_in (account_of s who) k) → is_kept s who ≡ true
+pub sized_kept : (s : State) (who : SubaccountId) (k n : ℕ) → 0 < n → n ≤ unsigned_abs (size_in (account_of s who) k) → is_kept s who ≡ true
 sized_kept s who k n p e =
     elim (get s.accounts who) as (λ o. n ≤ unsigned_abs (size_in (unwrap_or o no_account) k) → is_some o ≡ true) [
       | None ↦ λ e. absurd (let i : n ≤ 0 = e in omega (arith, p, i))
@@ -90,7 +90,7 @@ fund_within (pos n) e g = and_from (int_le (pos 0) (pos n)) (int_lt (pos n) (pos
 fund_within (negsuc n) e g = absurd (let i : true ≡ false = g in cc)
 
 -- the insurance fund changes within its bounds
-insured_held : (f : Frame) (k : ℕ) (s : State) (change : ℤ) → is_fund (s.funds.insurance +ℤ change) ≡ true → Held f (Some k) s
+pub insured_held : (f : Frame) (k : ℕ) (s : State) (change : ℤ) → is_fund (s.funds.insurance +ℤ change) ≡ true → Held f (Some k) s
     → Held f (Some k) (record s { funds = with_insured s.funds change })
 insured_held f k s change e h = record {
   parts = h.parts;

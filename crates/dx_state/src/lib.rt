@@ -10,15 +10,25 @@
 //! look-up is the one of the finite map, each list of names goes by rising name, and the audit's sums
 //! are exact. No call that cannot be refused takes memory. The type keeps neither the balance of the
 //! funds nor the bounds of numbers: that is for the rules that write it.
+//!
+//! For another ledger over the same maps: [`audit`] adds up any content that is [`Audited`], and
+//! [`Pieces`] takes a plain state apart and puts it together.
 #![tactic(auto)]
 
+mod audits;
 mod filters;
 mod holding;
 mod market;
 mod parts;
+mod pieces;
 mod plain;
 mod tables;
 
+pub use audits::{Audited, audit};
+pub use holding::{held_in, sort as sort_holders};
+pub use market::{Market, collected};
+pub use parts::Part;
+pub use pieces::Pieces;
 pub use plain::PlainState;
 
 #[cfg(test)]

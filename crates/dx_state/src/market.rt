@@ -7,13 +7,13 @@ use std::alloc::Global;
 
 /// A market's numbers, and what it collects between ticks.
 #[derive(Clone, Debug, Drop)]
-pub(crate) struct Market {
+pub struct Market {
     /// Its numbers.
-    pub(crate) info: MarketInfo,
+    pub info: MarketInfo,
     /// The votes since the last sample tick, in ppm.
-    pub(crate) votes: ArrayVec<i32, 60>,
+    pub votes: ArrayVec<i32, 60>,
     /// The samples since the last funding tick, in ppm.
-    pub(crate) samples: ArrayVec<i32, 60>,
+    pub samples: ArrayVec<i32, 60>,
 }
 
 impl Market {
@@ -55,7 +55,7 @@ pub(crate) fn clone_markets(markets: &Vec<Market>) -> Result<Vec<Market>, NoMemo
 }
 
 /// Votes or samples, as a market keeps them.
-pub(crate) fn collected(values: &[i32]) -> ArrayVec<i32, 60>
+pub fn collected(values: &[i32]) -> ArrayVec<i32, 60>
     requires { length values.now ≤ 60 }
     ensures { result.items ≡ values.now }
 {

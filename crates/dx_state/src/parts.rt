@@ -18,7 +18,7 @@ use dx_types::{Account, MarketInfo, Position, SubaccountId};
 use std::collections::BTreeMap;
 
 /// A number of each account, which can be added up.
-pub(crate) trait Part {
+pub trait Part {
     ghost use Rattle.std.specs.Prelude.{ℤ};
     ghost use Rattle.dx_types.specs.declared.Account.{Account as Holder};
 

@@ -2,16 +2,18 @@ ghost use Rattle.std.specs.Prelude.{◌≡◌, ◌≤◌, [], IfOk};
 ghost use Rattle.std.specs.FinMap as map;
 ghost use Rattle.dx_spec.specs.State.{genesis_state};
 ghost use Rattle.dx_spec.specs.Balance.{Sound};
-ghost use Rattle.dx_spec.specs.Audits.{market_audit as audit_of_market, market_audits as audits_of_markets, audit as audit_of};
-ghost use Rattle.dx_state.specs.Summing.{IsSummable, IsBoundedMarket};
+ghost use Rattle.dx_spec.specs.Audits.{audit as audit_of};
 ghost use Rattle.dx_spec.specs.Genesis.{IsGenesis};
 ghost use Rattle.dx_spec.specs.Bounds.{last_moment};
+ghost use Rattle.dx_state.specs.Pieced.{state_of};
 ghost use Rattle.dx_state.specs.Fresh.{first_clock as clock_of, first_funds as funds_of};
 
+use crate::audits::{Audited, audit};
 use crate::filters::{Ending, Prunable};
 use crate::holding::holders;
 use crate::market::{Market, clone_markets, collected, new_markets};
-use crate::parts::{Long, Owed, Quote, Short, sum_over};
+use crate::parts::{Part, sum_over};
+use crate::pieces::Pieces;
 use crate::tables::{
     clone_accounts, clone_filled, clone_stateful, is_full_for, keys_of, values_of,
 };
@@ -20,8 +22,8 @@ use dx_ledger::{Branch, Ledger, LedgerFault};
 use dx_maps::{first_key, get, get_copy, insert, len, remove};
 use dx_types::limits::{FUNDING_EPOCH, SAMPLE_EPOCH};
 use dx_types::{
-    Account, Audit, Clock, FillRecord, Funds, Genesis, List, MarketAudit, MarketInfo, MarketParams,
-    Markets, NoMemory, Offset, Order, OrderId, Params, SubaccountId,
+    Account, Audit, Clock, FillRecord, Funds, Genesis, List, MarketInfo, Markets, NoMemory, Offset,
+    Order, OrderId, Params, SubaccountId,
 };
 use std::alloc::{AllocError, Global};
 use std::collections::BTreeMap;
@@ -129,6 +131,47 @@ impl PlainState {
 }
 
 impl PlainState {
+    /// The state of these pieces. It takes no memory.
+    pub fn from_pieces(pieces: Pieces) -> PlainState
+        ensures { result ≡ state_of pieces }
+    {
+        PlainState {
+            genesis: pieces.genesis,
+            clock: pieces.clock,
+            funds: pieces.funds,
+            accounts: pieces.accounts,
+            filled: pieces.filled,
+            stateful: pieces.stateful,
+            markets: pieces.markets,
+        }
+    }
+
+    /// The pieces of the state. It takes no memory.
+    pub fn into_pieces(self) -> Pieces
+        ensures { state_of result ≡ self }
+    {
+        let PlainState {
+            genesis,
+            clock,
+            funds,
+            accounts,
+            filled,
+            stateful,
+            markets,
+        } = self;
+        Pieces {
+            genesis,
+            clock,
+            funds,
+            accounts,
+            filled,
+            stateful,
+            markets,
+        }
+    }
+}
+
+impl PlainState {
     /// The allocator that the state keeps.
     fn allocator(&self) -> Global {
         *self.markets.allocator()
@@ -156,58 +199,33 @@ impl PlainState {
         values_of(self.allocator(), &self.stateful)
     }
 
-    /// The numbers of a market.
-    fn market_audit(&self, market: u32, info: &MarketInfo) -> MarketAudit
-        requires summable { IsSummable self.now }
-        requires bounded { IsBoundedMarket info.now }
-        ensures { result ≡ audit_of_market self.now market info.now }
-    {
-        let owed = Owed {
-            market,
-            info: *info,
-        };
-        MarketAudit {
-            market,
-            price: info.price,
-            index: info.index,
-            oi: info.oi,
-            long: sum_over(&self.accounts, &Long { market }),
-            short: sum_over(&self.accounts, &Short { market }),
-            fund: info.fund,
-            dust: info.dust,
-            owed: sum_over(&self.accounts, &owed),
-        }
-    }
-
-    /// The numbers of all markets, by number.
-    fn market_audits(&self) -> ArrayVec<MarketAudit, 32>
-        requires { IsSummable self.now }
-        ensures { result.items ≡ audits_of_markets self.now 0 self.now.markets }
-    {
-        let mut audits = ArrayVec::new();
-        for (number, market) in self.markets.iter().enumerate() {
-            audits.push(self.market_audit(number as u32, &market.info));
-        }
-        audits
-    }
-
     /// The numbers of the state, added up over all accounts. It takes no memory.
     pub fn audit(&self) -> Audit
         requires sound { Sound self.now }
         requires genesis { IsGenesis self.now.genesis }
         ensures { result ≡ audit_of self.now }
     {
-        Audit {
-            height: self.clock.height,
-            paid_in: self.funds.paid_in,
-            paid_out: self.funds.paid_out,
-            quotes: sum_over(&self.accounts, &Quote),
-            fees: self.funds.fees,
-            charged: self.funds.charged,
-            fee_dust: self.funds.fee_dust,
-            insurance: self.funds.insurance,
-            markets: self.market_audits(),
-        }
+        audit(self)
+    }
+}
+
+impl Audited for PlainState {
+    ghost audited = { λ s. s };
+
+    fn height(&self) -> u32 {
+        self.clock.height
+    }
+
+    fn funds(&self) -> &Funds {
+        &self.funds
+    }
+
+    fn markets(&self) -> &[Market] {
+        &self.markets
+    }
+
+    fn sum<P: Part>(&self, part: &P) -> i128 {
+        sum_over(&self.accounts, part)
     }
 }
 

@@ -9,8 +9,30 @@ pub const SUBTICKS_LIMIT: u64 = 1 << 40;
 /// The quote of one fill and the value of an open interest stay below this: quote quantums.
 pub const WORTH_LIMIT: u128 = 1 << 56;
 
-/// A fund stays below this: quote quantums.
+/// The fee fund and the insurance fund stay below this: quote quantums.
 pub const FUND_LIMIT: i64 = 1 << 60;
+
+/// The magnitude of an account's quote and of a market's fund stays below this: quote quantums.
+pub const BALANCE_LIMIT: u128 = 1 << 60;
+
+/// The amount of a deposit, a withdrawal or a transfer stays below this: quote quantums.
+pub const SUM_LIMIT: u64 = 1 << 60;
+
+/// A funding index goes from the negative of this to this: millionths of a quote quantum for each base
+/// quantum.
+pub const MOST_INDEX: i64 = 1 << 50;
+
+/// A premium of a vote or a sample goes from the negative of this to this: parts per million.
+pub const MOST_PREMIUM: i32 = 1_000_000;
+
+/// A whole, in parts per million: the greatest margin of a genesis, rate cap and insurance share.
+pub const WHOLE_PPM: u32 = 1_000_000;
+
+/// The greatest fee of a genesis, in parts per million of a fill's quote.
+pub const MOST_FEE_PPM: u32 = 100_000;
+
+/// The greatest spread and the greatest bankruptcy rate of a genesis, in parts per million.
+pub const MOST_SPREAD_PPM: u32 = 10_000_000;
 
 /// The last height, and the last time in seconds.
 pub const LAST_MOMENT: u32 = 4_000_000_000;
@@ -26,6 +48,13 @@ pub const FUNDING_EPOCH: u32 = 3_600;
 
 /// A genesis may have so many markets.
 pub const MOST_MARKETS: usize = 32;
+
+/// An account may have so many positions.
+pub const MOST_POSITIONS: usize = 16;
+
+/// A market may have so many votes between two sample ticks, and so many samples between two funding
+/// ticks; a genesis may ask for so many of them.
+pub const MOST_VOTES: usize = 60;
 
 /// A state may keep so many accounts.
 pub const MOST_ACCOUNTS: usize = 65_536;
