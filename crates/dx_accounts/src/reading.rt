@@ -32,7 +32,7 @@ fn with_quote<L: Ledger>(l: &L, who: SubaccountId, quote: i64) -> Account
 }
 
 /// The risk of an account by the markets of the ledger.
-fn risk_at<L: Ledger>(l: &L, a: &Account) -> Risk
+pub(crate) fn risk_at<L: Ledger>(l: &L, a: &Account) -> Risk
     requires markets { All IsMarket (L.content l.now).markets }
     requires covered { IsCovered (L.content l.now).markets a.now }
     requires quote { unsigned_abs a.now.quote < 2 ^ 60 }
@@ -47,7 +47,8 @@ fn risk_at<L: Ledger>(l: &L, a: &Account) -> Risk
 pub fn risk_with_quote<L: Ledger>(l: &L, who: SubaccountId, quote: i64) -> Risk
     requires steady { IsSteady (L.content l.now) }
     requires quote { unsigned_abs quote < 2 ^ 60 }
-    ensures value { result ≡ risk_in (L.content l.now).markets (record (account_in (L.content l.now) who) { quote = quote }) }
+    ensures value { result
+        ≡ risk_in (L.content l.now).markets (record (account_in (L.content l.now) who) { quote = quote }) }
     ensures range { IsRisk result }
 {
     risk_at(l, &with_quote(l, who, quote))

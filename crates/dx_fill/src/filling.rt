@@ -1,63 +1,20 @@
 //! A fill, from its tests to the risks of both accounts.
 
-ghost use Rattle.std.specs.Prelude.{◌≡◌, ◌≢◌, ℕ, IfErr, OnOk, OnErr, ok_or};
-ghost use Rattle.dx_spec.specs.Codes.{bound};
-ghost use Rattle.dx_spec.specs.Margin.{may as may_change};
-ghost use Rattle.dx_spec.specs.Accounts.{settle_step, risk_of as risk_in};
+ghost use Rattle.std.specs.Prelude.{◌≡◌, ℕ, IfErr, OnOk, OnErr};
 ghost use Rattle.dx_spec.specs.Fills.{fill_step};
 ghost use Rattle.dx_spec.specs.Balance.{Balanced};
 ghost use Rattle.dx_sound.specs.Within.{SoundWithin, StepKeeps};
-ghost use Rattle.dx_margin.specs.Ranges.{IsRisk};
 ghost use Rattle.dx_ledger.specs.Marks.{KeepsMarks};
-ghost use Rattle.dx_accounts.specs.Steady.{IsSteady};
-ghost use Rattle.dx_trade.specs.Refusals.{IsFaultOf};
+ghost use Rattle.dx_accounts.specs.Faults.{IsFaultOf};
 ghost use Rattle.dx_fill.specs.Conditions.{CanFillBoth, CanMake};
-ghost use Rattle.dx_fill.specs.Stages.{borne_fill, fault_for};
+ghost use Rattle.dx_fill.specs.Stages.{borne_fill};
 
 use crate::making::make_fill;
 use crate::pairs::check_fill;
-use dx_accounts::{TouchFault, risk_of, settle_account};
+use dx_accounts::risk_of;
 use dx_ledger::{Branch, Ledger, OpFault};
-use dx_margin::may;
-use dx_trade::Refusal;
-use dx_types::{MarketInfo, Order, Risk, SubaccountId};
-
-/// The fault of a settlement, as that of a fill. Settlement writes kept accounts alone, so that it never
-/// lacks a place for one.
-fn fault_of(fault: TouchFault) -> OpFault
-    requires { fault ≢ TouchFault.Accounts }
-    ensures { result ≡ fault_for fault }
-{
-    match fault {
-        TouchFault::NoMemory => OpFault::NoMemory,
-        TouchFault::Bound => OpFault::from(Refusal::Bound),
-        TouchFault::Accounts => unreachable!(),
-    }
-}
-
-/// Settles an account.
-fn settle<L: Ledger>(l: &mut L, who: SubaccountId) -> Result<(), OpFault>
-    requires { IsSteady (L.content l.old) }
-    ensures ok { OnOk result (settle_step (L.content l.old) who ≡ Some (L.content l.new)) }
-    ensures steady { OnOk result (IsSteady (L.content l.new)) }
-    ensures code { IfErr result (IsFaultOf (ok_or (settle_step (L.content l.old) who) bound)) }
-    ensures marks { KeepsMarks L.stands L.marked l.old l.new }
-    ensures beside { L.beside l.new ≡ L.beside l.old }
-{
-    match settle_account(l, who) {
-        Ok(()) => Ok(()),
-        Err(fault) => Err(fault_of(fault)),
-    }
-}
-
-/// Whether an account may go from a risk to the one that it has.
-fn bears<L: Ledger>(l: &L, who: SubaccountId, before: &Risk) -> bool
-    requires steady { IsSteady (L.content l.now) }
-    requires before { IsRisk before.now }
-    ensures { result ≡ may_change before.now (risk_in (L.content l.now) who) }
-{
-    may(before, &risk_of(l, who))
-}
+use dx_trade::{Refusal, bears, settle};
+use dx_types::{MarketInfo, Order};
 
 /// Makes a fill between accounts that are settled, where both bear it.
 fn fill_settled<L: Ledger>(
@@ -118,7 +75,8 @@ pub fn fill<L: Branch>(l: &mut L, taker: &Order, maker: &Order, amount: u64) -> 
     ensures code { IfErr result (IsFaultOf (fill_step (L.content l.old) taker.now maker.now amount)) }
     ensures err { OnErr result (L.content l.new ≡ L.content l.old) }
     ensures balanced { OnOk result (Balanced (L.content l.new)) }
-    ensures within { (most : ℕ) → SoundWithin most (L.content l.old) → OnOk result (StepKeeps most (L.content l.old) (L.content l.new)) }
+    ensures within { (most : ℕ) → SoundWithin most (L.content l.old)
+        → OnOk result (StepKeeps most (L.content l.old) (L.content l.new)) }
     ensures marks { KeepsMarks L.stands L.marked l.old l.new }
     ensures beside { L.beside l.new ≡ L.beside l.old }
 {

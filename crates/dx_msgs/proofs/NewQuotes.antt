@@ -1,21 +1,22 @@
--- Accounts with other quotes.
-use Rattle.std.proofs.Common.{◌≡◌, ℕ, ◌≤◌, Bool, true, false, cond, not, ◌&&◌, ℤ, pos, ◌+ℤ◌, neg_ℤ, Option, Some, None, is_some, unwrap_or, nat_le, Ok, Err, refl, sym, ap, ◌∙◌, arith}
+-- Accounts with other quotes, and stateful orders.
+use Rattle.std.proofs.Common.{◌≡◌, ℕ, ◌<◌, ◌≤◌, Bool, true, false, cond, not, ◌&&◌, ℤ, pos, ◌+ℤ◌, neg_ℤ, Option, Some, None, is_some, unwrap_or, nat_le, Ok, Err, refl, sym, ap, ◌∙◌, arith}
 use Rattle.std.proofs.lemmas.Bool.Decides.{nat_tests}
 use Rattle.std.specs.Cmp.{eq_by_cmp_equiv}
 use Rattle.std.specs.FinMap.{get, len}
-use Rattle.dx_types.specs.Keys.{subaccount_cmp, subaccount_total, subaccount_exact}
+use Rattle.dx_types.specs.Keys.{subaccount_cmp, subaccount_total, subaccount_exact, order_id_cmp, order_id_total, order_id_exact}
 use Rattle.dx_types.specs.declared.SubaccountId.{SubaccountId}
 use Rattle.dx_types.specs.declared.Account.{Account}
+use Rattle.dx_types.specs.declared.Order.{Order}
 use Rattle.dx_spec.specs.Step.{◌>>◌, refuse}
 use Rattle.dx_spec.specs.Results.{bound, accounts_full, too_risky}
 use Rattle.dx_spec.specs.State.{State, no_account, account_of, is_kept, is_same_account}
-use Rattle.dx_spec.specs.Bounds.{is_balance, most_accounts}
+use Rattle.dx_spec.specs.Bounds.{is_balance, most_accounts, most_orders}
 use Rattle.dx_spec.specs.Margin.{risk, may}
 use Rattle.dx_spec.specs.Accounts.{risk_of}
 use Rattle.dx_spec.specs.Messages.{is_one_too_many, change_quote, may_change}
 use Rattle.dx_spec.proofs.Accounts.{its_account, other_account}
-use Rattle.dx_ledger.specs.Writes.{IsFullFor}
-use Rattle.dx_spec.proofs.Entries.{same_keys, len_same}
+use Rattle.dx_ledger.specs.Writes.{IsFullFor, MayStand}
+use Rattle.dx_spec.proofs.Entries.{same_keys, len_same, len_more}
 use Rattle.dx_spec.proofs.Scripts.{some_next, none_stop, pass}
 use Rattle.dx_msgs.specs.Stages.{with_quote, quoted, new_quote, may_have, put_step, give_step, both_step, added, taken, moved}
 
@@ -30,6 +31,9 @@ none_by (Some a) n e = absurd (cc)
 -- a write that is refused for room has one account too many
 pub full_is : (s : State) (who : SubaccountId) → IsFullFor s who → is_one_too_many s who ≡ true
 full_is s who h = full_by (get s.accounts who) (len s.accounts) h.0 h.1
+
+pub full_only : (s : State) (who : SubaccountId) → is_one_too_many s who ≡ true → IsFullFor s who
+full_only s who e = none_by (get s.accounts who) (len s.accounts) e
 
 not_true : (b : Bool) → (b ≡ true → ⊥) → b ≡ false
 not_true true h = absurd (h refl)
@@ -142,3 +146,10 @@ unfolding put_step both_step
 both_put s from to g t k m =
     ap (λ b. refuse accounts_full b >> Ok (quoted (quoted s from g) to t)) (quoted_room s from to g k)
     ∙ sym (pass too_risky (not (may_have s from g)) (refuse accounts_full (is_one_too_many s to) >> Ok (quoted (quoted s from g) to t)) (ap not m))
+
+-- there is room for one more stateful order
+pub may_place : (s : State) (o : Order) → len s.stateful < most_orders → MayStand s o.id (Some o)
+may_place s o h = record {
+  own = refl;
+  room = let l = len_more order_id_cmp order_id_total order_id_exact s.stateful o.id o in omega (arith, l, h);
+}

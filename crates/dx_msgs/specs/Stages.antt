@@ -3,6 +3,7 @@ use Rattle.std.specs.Prelude.{ℕ, Bool, not, ℤ, pos, ◌+ℤ◌, neg_ℤ, Opt
 use Rattle.std.specs.FinMap.{insert}
 use Rattle.dx_types.specs.declared.SubaccountId.{SubaccountId}
 use Rattle.dx_types.specs.declared.Account.{Account}
+use Rattle.dx_types.specs.declared.Order.{Order}
 use Rattle.dx_spec.specs.Step.{◌>>=◌, ◌>>◌, refuse}
 use Rattle.dx_spec.specs.Results.{bound, accounts_full, too_risky}
 use Rattle.dx_spec.specs.State.{State, account_of}
@@ -89,3 +90,7 @@ withdrawn s who amount = taken s who amount >>= λ v. Ok (with_paid_out v amount
 -- the account that is paid is settled, and an amount is moved to it
 unfoldable pub half_transfer : State → SubaccountId → SubaccountId → ℕ → Result State ℕ
 half_transfer s from to amount = ok_or (settle_step s to) bound >>= λ v. moved v from to amount
+
+-- a stateful order stands under its id
+abbrev pub with_order : State → Order → State
+with_order s o = record s { stateful = insert s.stateful o.id o }

@@ -1,17 +1,18 @@
 //! The messages, each carried out on a ledger that its caller rolls back where it is refused.
 
-ghost use Rattle.std.specs.Prelude.{◌≡◌, ◌<◌, ◌^◌, true, false, IfSome, IfErr, IsNone, OnOk};
+ghost use Rattle.std.specs.Prelude.{◌≡◌, ◌<◌, ◌^◌, true, false, IfErr, OnOk};
 ghost use Rattle.dx_spec.specs.Messages.{is_bad_sum as bad_sum, deposit_step, withdraw_step, check_transfer as transfer_check, transfer_step, message_step};
 ghost use Rattle.dx_spec.specs.State.{is_kept, is_same_account};
 ghost use Rattle.dx_ledger.specs.Marks.{KeepsMarks};
 ghost use Rattle.dx_accounts.specs.Steady.{IsSteady};
-ghost use Rattle.dx_msgs.specs.Refusals.{IsFault, IsBuilt, number_of};
+ghost use Rattle.dx_msgs.specs.Refusals.{IsFault, number_of};
 ghost use Rattle.dx_msgs.specs.Stages.{deposited, withdrawn, half_transfer};
 
 use crate::amounts::{is_bad_sum, pay_in, pay_out};
 use crate::moving::move_quote;
 use crate::quotes::{add, settle, take};
 use crate::refusal::{MessageFault, Refusal};
+use crate::stateful::{cancel_stateful, place_stateful};
 use dx_ledger::Ledger;
 use dx_types::{Msg, SubaccountId};
 
@@ -24,10 +25,8 @@ fn deposit_settled<L: Ledger>(l: &mut L, who: SubaccountId, amount: u64) -> Resu
     ensures marks { KeepsMarks L.stands L.marked l.old l.new }
     ensures beside { L.beside l.new ≡ L.beside l.old }
 {
-    match add(l, who, amount) {
-        Ok(()) => pay_in(l, amount),
-        Err(fault) => Err(fault),
-    }
+    add(l, who, amount)?;
+    pay_in(l, amount)
 }
 
 /// Settles an account and pays a good amount in to it.
@@ -40,10 +39,8 @@ fn deposit_good<L: Ledger>(l: &mut L, who: SubaccountId, amount: u64) -> Result<
     ensures marks { KeepsMarks L.stands L.marked l.old l.new }
     ensures beside { L.beside l.new ≡ L.beside l.old }
 {
-    match settle(l, who) {
-        Ok(()) => deposit_settled(l, who, amount),
-        Err(fault) => Err(fault),
-    }
+    settle(l, who)?;
+    deposit_settled(l, who, amount)
 }
 
 /// Pays quote quantums in to an account; a new one is made.
@@ -68,16 +65,15 @@ fn withdraw_settled<L: Ledger>(
     amount: u64,
 ) -> Result<(), MessageFault>
     requires steady { IsSteady (L.content l.old) }
+    requires kept { is_kept (L.content l.old) who ≡ true }
     requires amount { amount < 2 ^ 60 }
     ensures ok { OnOk result (withdrawn (L.content l.old) who amount ≡ Ok (L.content l.new)) }
     ensures fault { IfErr result (λ f. IsFault f (withdrawn (L.content l.old) who amount)) }
     ensures marks { KeepsMarks L.stands L.marked l.old l.new }
     ensures beside { L.beside l.new ≡ L.beside l.old }
 {
-    match take(l, who, amount) {
-        Ok(()) => pay_out(l, amount),
-        Err(fault) => Err(fault),
-    }
+    take(l, who, amount)?;
+    pay_out(l, amount)
 }
 
 /// Settles an account that is kept and pays a good amount out of it.
@@ -91,27 +87,25 @@ fn withdraw_good<L: Ledger>(l: &mut L, who: SubaccountId, amount: u64) -> Result
     ensures marks { KeepsMarks L.stands L.marked l.old l.new }
     ensures beside { L.beside l.new ≡ L.beside l.old }
 {
-    match settle(l, who) {
-        Ok(()) => withdraw_settled(l, who, amount),
-        Err(fault) => Err(fault),
-    }
+    settle(l, who)?;
+    withdraw_settled(l, who, amount)
 }
 
-/// The tests of a withdrawal that look at no balance.
+/// Tests a withdrawal as far as it looks at no balance. The refusal is the first that fails.
 #[tactic(auto, unfolding(dx_spec::specs::Messages::withdraw_step))]
-fn check_withdrawal<L: Ledger>(l: &L, who: SubaccountId, amount: u64) -> Option<Refusal>
-    ensures good { IsNone result → bad_sum amount ≡ false }
-    ensures kept { IsNone result → is_kept (L.content l.now) who ≡ true }
-    ensures amount { IsNone result → amount < 2 ^ 60 }
-    ensures refused { IfSome result (λ r. withdraw_step (L.content l.now) who amount ≡ Err (number_of r)) }
+fn check_withdrawal<L: Ledger>(l: &L, who: SubaccountId, amount: u64) -> Result<(), Refusal>
+    ensures good { OnOk result (bad_sum amount ≡ false) }
+    ensures kept { OnOk result (is_kept (L.content l.now) who ≡ true) }
+    ensures amount { OnOk result (amount < 2 ^ 60) }
+    ensures refused { IfErr result (λ r. withdraw_step (L.content l.now) who amount ≡ Err (number_of r)) }
 {
     if is_bad_sum(amount) {
-        Some(Refusal::BadAmount)
-    } else if l.account(who).is_none() {
-        Some(Refusal::UnknownAccount)
-    } else {
-        None
+        return Err(Refusal::BadAmount);
     }
+    if l.account(who).is_none() {
+        return Err(Refusal::UnknownAccount);
+    }
+    Ok(())
 }
 
 /// Pays quote quantums out of an account.
@@ -122,34 +116,32 @@ fn withdraw<L: Ledger>(l: &mut L, who: SubaccountId, amount: u64) -> Result<(), 
     ensures marks { KeepsMarks L.stands L.marked l.old l.new }
     ensures beside { L.beside l.new ≡ L.beside l.old }
 {
-    match check_withdrawal(l, who, amount) {
-        Some(refusal) => Err(MessageFault::Refused(refusal)),
-        None => withdraw_good(l, who, amount),
-    }
+    check_withdrawal(l, who, amount)?;
+    withdraw_good(l, who, amount)
 }
 
-/// The tests of a transfer that look at no balance.
+/// Tests a transfer as far as it looks at no balance. The refusal is the first that fails.
 #[tactic(auto, unfolding(dx_spec::specs::Messages::check_transfer))]
 fn check_transfer<L: Ledger>(
     l: &L,
     from: SubaccountId,
     to: SubaccountId,
     amount: u64,
-) -> Result<(), MessageFault>
+) -> Result<(), Refusal>
     ensures ok { OnOk result (transfer_check (L.content l.now) from to amount ≡ Ok tt) }
-    ensures fault { IfErr result (λ f. IsFault f (transfer_check (L.content l.now) from to amount)) }
+    ensures refused { IfErr result (λ r. transfer_check (L.content l.now) from to amount ≡ Err (number_of r)) }
     ensures amount { OnOk result (amount < 2 ^ 60) }
     ensures others { OnOk result (is_same_account from to ≡ false) }
     ensures kept { OnOk result (is_kept (L.content l.now) from ≡ true) }
 {
     if is_bad_sum(amount) {
-        return Err(MessageFault::Refused(Refusal::BadAmount));
+        return Err(Refusal::BadAmount);
     }
     if from == to {
-        return Err(MessageFault::Refused(Refusal::SameAccount));
+        return Err(Refusal::SameAccount);
     }
     if l.account(from).is_none() {
-        return Err(MessageFault::Refused(Refusal::UnknownAccount));
+        return Err(Refusal::UnknownAccount);
     }
     Ok(())
 }
@@ -170,10 +162,8 @@ fn transfer_half<L: Ledger>(
     ensures marks { KeepsMarks L.stands L.marked l.old l.new }
     ensures beside { L.beside l.new ≡ L.beside l.old }
 {
-    match settle(l, to) {
-        Ok(()) => move_quote(l, from, to, amount),
-        Err(fault) => Err(fault),
-    }
+    settle(l, to)?;
+    move_quote(l, from, to, amount)
 }
 
 /// Settles both accounts, and moves the amount.
@@ -193,10 +183,8 @@ fn transfer_good<L: Ledger>(
     ensures marks { KeepsMarks L.stands L.marked l.old l.new }
     ensures beside { L.beside l.new ≡ L.beside l.old }
 {
-    match settle(l, from) {
-        Ok(()) => transfer_half(l, from, to, amount),
-        Err(fault) => Err(fault),
-    }
+    settle(l, from)?;
+    transfer_half(l, from, to, amount)
 }
 
 /// Moves quote quantums from one account to another; the second may be new.
@@ -212,17 +200,14 @@ fn transfer<L: Ledger>(
     ensures marks { KeepsMarks L.stands L.marked l.old l.new }
     ensures beside { L.beside l.new ≡ L.beside l.old }
 {
-    match check_transfer(l, from, to, amount) {
-        Ok(()) => transfer_good(l, from, to, amount),
-        Err(fault) => Err(fault),
-    }
+    check_transfer(l, from, to, amount)?;
+    transfer_good(l, from, to, amount)
 }
 
 /// Carries a message out. After a fault nothing is promised of the content.
 #[tactic(auto, unfolding(dx_spec::specs::Messages::message_step))]
 pub fn carry_out<L: Ledger>(l: &mut L, time: u32, m: &Msg) -> Result<(), MessageFault>
-    requires steady { IsSteady (L.content l.old) }
-    requires built { IsBuilt m.now }
+    requires { IsSteady (L.content l.old) }
     ensures ok { OnOk result (message_step (L.content l.old) time m.now ≡ Ok (L.content l.new)) }
     ensures fault { IfErr result (λ f. IsFault f (message_step (L.content l.old) time m.now)) }
     ensures marks { KeepsMarks L.stands L.marked l.old l.new }
@@ -232,6 +217,7 @@ pub fn carry_out<L: Ledger>(l: &mut L, time: u32, m: &Msg) -> Result<(), Message
         Msg::Deposit { who, amount } => deposit(l, who, amount),
         Msg::Withdraw { who, amount } => withdraw(l, who, amount),
         Msg::Transfer { from, to, amount } => transfer(l, from, to, amount),
-        Msg::PlaceStateful(_) | Msg::CancelStateful(_) => unreachable!(),
+        Msg::PlaceStateful(o) => place_stateful(l, time, &o),
+        Msg::CancelStateful(id) => cancel_stateful(l, &id),
     }
 }

@@ -1,7 +1,8 @@
-ghost use Rattle.std.specs.Prelude.{◌≡◌};
+ghost use Rattle.std.specs.Prelude.{◌≡◌, ◌≢◌};
 ghost use Rattle.dx_msgs.specs.Refusals.{number_of, fault_of};
 
 use dx_accounts::TouchFault;
+use dx_ledger::LedgerFault;
 use dx_types::NoMemory;
 use thiserror::Error;
 
@@ -26,6 +27,18 @@ pub enum Refusal {
     /// The account that pays is the one that is paid.
     #[error("both accounts are one")]
     SameAccount,
+    /// The order fails the tests of a stateful order.
+    #[error("the order is not one of its account and market")]
+    BadOrder,
+    /// A stateful order of its id stands already.
+    #[error("an order of the id stands")]
+    OrderExists,
+    /// As many stateful orders stand as a state may have.
+    #[error("no more orders may stand")]
+    OrdersFull,
+    /// No stateful order of the id stands.
+    #[error("no order of the id stands")]
+    NoOrder,
 }
 
 impl Refusal {
@@ -40,6 +53,10 @@ impl Refusal {
             Refusal::UnknownAccount => 4,
             Refusal::TooRisky => 5,
             Refusal::SameAccount => 6,
+            Refusal::BadOrder => 7,
+            Refusal::OrderExists => 8,
+            Refusal::OrdersFull => 9,
+            Refusal::NoOrder => 10,
         }
     }
 }
@@ -75,13 +92,29 @@ impl From<Refusal> for MessageFault {
     }
 }
 
-/// The fault of a settlement or a write as that of a message.
-pub fn message_fault(fault: TouchFault) -> MessageFault
+impl From<LedgerFault> for MessageFault {
+    ghost use Rattle.dx_msgs.specs.Refusals.{write_fault};
+
+    ghost from_gives = { λ f r. r ≡ write_fault f };
+
+    /// The fault of a write of an account.
+    fn from(fault: LedgerFault) -> MessageFault {
+        match fault {
+            LedgerFault::Accounts => MessageFault::Refused(Refusal::AccountsFull),
+            LedgerFault::NoMemory => MessageFault::NoMemory,
+        }
+    }
+}
+
+/// The fault of a settlement as that of a message. Settlement writes kept accounts alone, so that it never
+/// lacks a place for one.
+pub fn settle_fault(fault: TouchFault) -> MessageFault
+    requires { fault ≢ TouchFault.Accounts }
     ensures { result ≡ fault_of fault }
 {
     match fault {
         TouchFault::Bound => MessageFault::Refused(Refusal::Bound),
-        TouchFault::Accounts => MessageFault::Refused(Refusal::AccountsFull),
         TouchFault::NoMemory => MessageFault::NoMemory,
+        TouchFault::Accounts => unreachable!(),
     }
 }

@@ -19,16 +19,17 @@ use Rattle.dx_spec.specs.State.{State, is_short_term, is_kept, filled_of}
 use Rattle.dx_spec.specs.Genesis.{IsGenesis}
 use Rattle.dx_spec.specs.Balance.{Balanced}
 use Rattle.dx_spec.specs.Orders.{is_amount_of, is_subticks_of, fits_market, check_form, check_order, is_good_stateful}
-use Rattle.dx_spec.specs.Operations.{Placed, order_of, is_good_order}
+use Rattle.dx_spec.specs.Operations.{Placed, order_of, is_good_order, without_order, remove_step}
 use Rattle.dx_spec.proofs.Steps.{true_from_not}
-use Rattle.dx_sound.specs.Within.{StepKeeps}
+use Rattle.dx_sound.specs.Within.{SoundWithin, StepKeeps}
 use Rattle.dx_spec.proofs.Scripts.{passes, unit_passes, ok_answer}
 use Rattle.dx_spec.proofs.Entries.{each_inserted}
+use Rattle.dx_spec.proofs.Parts.{remove_step_is}
 use Rattle.dx_sound.proofs.Running.{mapped_true, standing}
 use Rattle.dx_accounts.specs.Steady.{IsSteady}
-use Rattle.dx_fill.specs.Conditions.{IsTradable}
-use Rattle.dx_fill.proofs.Before.{tradable_fillable}
-use Rattle.dx_operations.specs.Midway.{ArePlaced, IsMidway}
+use Rattle.dx_trade.specs.Conditions.{IsTradable}
+use Rattle.dx_trade.proofs.Tradables.{tradable_fillable}
+use Rattle.dx_operations.specs.Midway.{ArePlaced, IsMidway, KeepsMidway}
 
 -- an order that fits its market is of a kept account and a known market
 pub record Fits (p : Params) (known : Bool) (o : Order) : Type 0 where
@@ -118,8 +119,8 @@ pub found_tradable : (height : ℕ) (s : State) (placed : Placed) (id : OrderId)
 found_tradable height s placed id None h e = tt
 found_tradable height s placed id (Some o) h e = order_tradable height s placed id o h (sym e)
 
--- a fill leaves a state steady
-steady_filled : (s t : State) → IsSteady s → StepKeeps (2 ^ 101) s t → Balanced t → IsSteady t
+-- a fill or an offset leaves a state steady
+pub steady_filled : (s t : State) → IsSteady s → StepKeeps (2 ^ 101) s t → Balanced t → IsSteady t
 steady_filled s t h k b = record { genesis = subst IsGenesis (sym k.base.genesis) h.genesis; within = k.within; balanced = b }
 
 pub same_count : (s t : State) → StepKeeps (2 ^ 101) s t → length s.markets ≡ length t.markets
@@ -150,6 +151,46 @@ midway_filled height s t placed h k b = record {
   next = h.next ∙ ap (λ (c : Clock). c.height + 1) (sym k.base.clock);
   orders = λ id o e. let i = h.orders id o e in (i.0, tradable_filled s t o h.steady k i.1);
 }
+
+-- an offset keeps what holds between the operations
+pub keeps_midway : (s t : State) → StepKeeps (2 ^ 101) s t → Balanced t → KeepsMidway s t
+unfolding KeepsMidway
+keeps_midway s t k b = λ height placed h. midway_filled height s t placed h k b
+
+pub keeps_itself : (s : State) → KeepsMidway s s
+unfolding KeepsMidway
+keeps_itself s = λ height placed h. h
+
+pub keeps_on : (s t u : State) → KeepsMidway s t → KeepsMidway t u → KeepsMidway s u
+unfolding KeepsMidway
+keeps_on s t u h i = λ height placed m. i height placed (h height placed m)
+
+pub midway_kept : (height : ℕ) (s t : State) (placed : Placed) → KeepsMidway s t → IsMidway height s placed → IsMidway height t placed
+unfolding KeepsMidway
+midway_kept height s t placed k h = k height placed h
+
+-- the placed orders stay short-term orders that may be traded where a stateful one is removed
+without_tradable : (s : State) (id : OrderId) (o : Order) → IsTrue (is_short_term o.id) × IsTradable s o → IsTrue (is_short_term o.id) × IsTradable (without_order s id) o
+without_tradable s id o h = (
+  h.0,
+  record {
+    kept = h.1.kept;
+    known = h.1.known;
+    short_term = h.1.short_term;
+    stateful = λ l. absurd (let i : false ≡ true = sym l ∙ h.0 in cc);
+  },
+)
+
+pub midway_removed : (height : ℕ) (s t : State) (placed : Placed) (id : OrderId) → IsMidway height s placed → remove_step s id ≡ Ok t → SoundWithin (2 ^ 101) t → Balanced t
+    → IsMidway height t placed
+midway_removed height s t placed id h e w b =
+    let i : without_order s id ≡ t = remove_step_is (λ u. without_order s id ≡ u) s id t e refl in
+    let kept = λ (q : OrderId) (o : Order) (f : get placed q ≡ Some o). without_tradable s id o (h.orders q o f) in
+    record {
+      steady = record { genesis = subst (λ (u : State). IsGenesis u.genesis) i h.steady.genesis; within = w; balanced = b };
+      next = subst (λ (u : State). height ≡ u.clock.height + 1) i h.next;
+      orders = subst (λ (u : State). ArePlaced u placed) i kept;
+    }
 
 -- a new table has no order
 pub new_table : (table : BTreeMap OrderId Order) → table.entries ≡ [] → map_of order_id_cmp table ≡ empty

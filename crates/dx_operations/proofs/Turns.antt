@@ -1,70 +1,46 @@
--- Steps over a list, turn by turn, and what their faults say of the whole.
-use Rattle.std.proofs.Common.{◌≡◌, ℕ, ◌+◌, ◌^◌, ◌<◌, ◌≤◌, true, false, cond, nat_lt, List, length, drop, get_or, Option, Some, Result, Ok, Err, ok_or, OnOk, refl, sym, ap, subst, ◌∙◌}
-use Rattle.std.proofs.lemmas.List.{drop_all}
+-- What an operation comes to, and what its fault says of the whole.
+use Rattle.std.proofs.Common.{◌≡◌, ℕ, ◌+◌, ◌<◌, ◌≤◌, false, nat_lt, List, [], ◌∷◌, length, drop, get_or, Result, Ok, Err, OnOk, sym, ap, subst, ◌∙◌, arith}
+use Rattle.std.specs.Prelude.{All, sum_by}
+use Rattle.std.specs.List.{AllByRecursion}
+use Rattle.std.proofs.lemmas.Bool.{or_parts, ltb-false}
+use Rattle.std.proofs.lemmas.List.Elements.{All-from_recursion}
+use Rattle.std.proofs.lemmas.List.Sums.{sum_by-cons}
 use Rattle.std.specs.FinMap.{empty}
+use Rattle.dx_types.specs.declared.SubaccountId.{SubaccountId}
 use Rattle.dx_types.specs.declared.OrderId.{OrderId}
 use Rattle.dx_types.specs.declared.Order.{Order}
 use Rattle.dx_types.specs.declared.Fill.{Fill}
-use Rattle.dx_types.specs.declared.Bad.{Bad as BadPart}
+use Rattle.dx_types.specs.declared.Offset.{Offset}
 use Rattle.dx_types.specs.declared.Op.{Op}
-use Rattle.dx_types.specs.declared.Op.TheVariants.{Place, Match}
+use Rattle.dx_types.specs.declared.Op.TheVariants.{Place, Match, Liquidate, Delever, Remove}
 use Rattle.dx_ledger.specs.declared.faults.OpFault.{OpFault}
 use Rattle.dx_ledger.specs.declared.faults.OpFault.TheVariants.{Code, NoMemory}
 use Rattle.dx_spec.specs.Step.{◌>>=◌, fail_as, try_each}
-use Rattle.dx_spec.specs.Codes.{unknown_maker, operations_part}
+use Rattle.dx_spec.specs.Codes.{operations_part}
 use Rattle.dx_spec.specs.State.{State}
-use Rattle.dx_spec.specs.Fills.{fill_step}
-use Rattle.dx_spec.specs.Operations.{Placed, Failure, at_fill, order_of, place_step, match_step, Progress, op_step, op_at, ops_step}
+use Rattle.dx_spec.specs.Blocks.{most_operations, most_fills, fills_in, has_too_many_ops}
+use Rattle.dx_spec.specs.Operations.{Placed, Failure, at_fill, place_step, match_step, liquidation_step, deleveraging_step, remove_step, Progress, op_step, op_at, ops_step}
 use Rattle.dx_spec.proofs.Steps.{try_each_drop}
-use Rattle.dx_trade.specs.Refusals.{IsFaultOf}
+use Rattle.dx_accounts.specs.Faults.{IsFaultOf}
 use Rattle.dx_operations.specs.declared.faults.BlockFault.{BlockFault}
 use Rattle.dx_operations.specs.declared.faults.BlockFault.TheVariants as block
 use Rattle.dx_operations.specs.Faults.{Refuses}
-use Rattle.dx_operations.specs.Refusals.{fault_at, bad_at, IsFailureOf}
-use Rattle.dx_operations.specs.Stages.{fill_by}
+use Rattle.dx_operations.specs.Refusals.{bad_at, IsFailureOf}
 
 -- what follows of two facts where a call answers
 pub both_ok : {A E : Type 0} (P Q R : Type 0) (r : Result A E) → (P → Q → R) → OnOk r P → OnOk r Q → OnOk r R
 both_ok P Q R (Ok x) f h i = f h i
 both_ok P Q R (Err e) f h i = h
 
+-- and of three
+pub all_ok : {A E : Type 0} (P Q R S : Type 0) (r : Result A E) → (P → Q → R → S) → OnOk r P → OnOk r Q → OnOk r R → OnOk r S
+all_ok P Q R S (Ok x) f h i j = f h i j
+all_ok P Q R S (Err e) f h i j = h
+
 -- a turn that answers leaves the turns behind it
 pub turn : {S X E : Type 0} (step : ℕ → X → S → Result S E) (i : ℕ) (xs : List X) (d : X) (s t : S) → i < length xs
     → step i (get_or xs i d) s ≡ Ok t → try_each step i (drop i xs) s ≡ try_each step (i + 1) (drop (i + 1) xs) t
 turn step i xs d s t h e = try_each_drop step i xs d s h ∙ ap (λ r. r >>= try_each step (i + 1) (drop (i + 1) xs)) e
-
--- a turn that fails ends them
-pub failed_turn : {S X E : Type 0} (step : ℕ → X → S → Result S E) (i : ℕ) (xs : List X) (d : X) (s : S) (f : E) → i < length xs
-    → step i (get_or xs i d) s ≡ Err f → try_each step i (drop i xs) s ≡ Err f
-failed_turn step i xs d s f h e = try_each_drop step i xs d s h ∙ ap (λ r. r >>= try_each step (i + 1) (drop (i + 1) xs)) e
-
--- behind the last there is none
-pub no_turn : {S X E : Type 0} (step : ℕ → X → S → Result S E) (i : ℕ) (xs : List X) (s : S) → length xs ≤ i → try_each step i (drop i xs) s ≡ Ok s
-no_turn step i xs s h = ap (λ ys. try_each step i ys s) (drop_all i xs h)
-
--- the fill of a maker that is there
-pub filled_by : (s : State) (placed : Placed) (taker : Order) (f : Fill) (o : Option Order) (maker : Order) (r : Result State ℕ)
-    → o ≡ order_of s placed f.maker → o ≡ Some maker → fill_step s taker maker f.amount ≡ r → fill_by s placed taker f ≡ r
-filled_by s placed taker f o maker r e i h = ap (λ x. ok_or x unknown_maker >>= λ m. fill_step s taker m f.amount) (sym e ∙ i) ∙ h
-
-pub fault_by : (s : State) (placed : Placed) (taker : Order) (f : Fill) (o : Option Order) (maker : Order) (x : OpFault)
-    → o ≡ order_of s placed f.maker → o ≡ Some maker → IsFaultOf (fill_step s taker maker f.amount) x → IsFaultOf (fill_by s placed taker f) x
-fault_by s placed taker f o maker x e i h = subst (λ r. IsFaultOf r x) (sym (filled_by s placed taker f o maker (fill_step s taker maker f.amount) e i refl)) h
-
--- the fault of a number
-pub numbered : {A : Type 0} (n : ℕ) (f : OpFault) (step : Result A ℕ) → IsFaultOf step f → IsFailureOf (fail_as (at_fill n) step) (fault_at n f)
-numbered n NoMemory step h = tt
-numbered n (Code fill code) step h =
-    elim (nat_lt n (2 ^ 32)) as (λ b. IsFailureOf (fail_as (at_fill n) step) (cond b (Code n code) NoMemory)) [
-      | true ↦ ap (fail_as (at_fill n)) h.1
-      | false ↦ tt
-    ]
-
--- a failure of a turn is one of all turns
-pub failure_of_turn : {S X : Type 0} (step : ℕ → X → S → Result S Failure) (i : ℕ) (xs : List X) (d : X) (s : S) (whole : Result S Failure) (f : OpFault) → i < length xs
-    → try_each step i (drop i xs) s ≡ whole → IsFailureOf (step i (get_or xs i d) s) f → IsFailureOf whole f
-failure_of_turn step i xs d s whole NoMemory h m e = tt
-failure_of_turn step i xs d s whole (Code fill code) h m e = sym m ∙ failed_turn step i xs d s (at_fill fill code) h e
 
 -- an order that is placed
 pub op_placed : (height : ℕ) (op : Op) (o : Order) (s : State) (placed after : Placed) → op ≡ Place o → place_step s placed height o ≡ Ok after
@@ -83,23 +59,73 @@ op_not_placed height op o s placed (Code fill code) i h =
     ∙ ap (λ r. fail_as (at_fill 0) r >>= λ x. Ok (record { state = s; placed = x })) h.1
     ∙ ap (λ n. Err (at_fill n code)) (sym h.0)
 
--- a match
-pub op_matched : (height : ℕ) (op : Op) (taker : OrderId) (fills same : List Fill) (s : State) (placed : Placed) (t : State) → op ≡ Match taker fills → same ≡ fills
-    → match_step s placed taker same ≡ Ok t → op_step height op (record { state = s; placed = placed }) ≡ Ok (record { state = t; placed = placed })
-unfolding op_step
-op_matched height op taker fills same s placed t i j e =
-    ap (λ (x : Op). op_step height x (record { state = s; placed = placed })) i
-    ∙ ap (λ (xs : List Fill). match_step s placed taker xs >>= λ x. Ok (record { state = x; placed = placed })) (sym j)
-    ∙ ap (λ r. r >>= λ x. Ok (record { state = x; placed = placed })) e
+-- what an operation that changes the state alone comes to
+abbrev with_state : Placed → Result State Failure → Result Progress Failure
+with_state placed r = r >>= λ x. Ok (record { state = x; placed = placed })
 
-pub op_not_matched : (height : ℕ) (op : Op) (taker : OrderId) (fills same : List Fill) (s : State) (placed : Placed) (f : OpFault) → op ≡ Match taker fills → same ≡ fills
-    → IsFailureOf (match_step s placed taker same) f → IsFailureOf (op_step height op (record { state = s; placed = placed })) f
+pub op_changed : (height : ℕ) (op : Op) (s : State) (placed : Placed) (t : State) (r : Result State Failure)
+    → op_step height op (record { state = s; placed = placed }) ≡ with_state placed r → r ≡ Ok t
+    → op_step height op (record { state = s; placed = placed }) ≡ Ok (record { state = t; placed = placed })
+op_changed height op s placed t r i e = i ∙ ap (with_state placed) e
+
+pub op_failed : (height : ℕ) (op : Op) (s : State) (placed : Placed) (r : Result State Failure) (f : OpFault)
+    → op_step height op (record { state = s; placed = placed }) ≡ with_state placed r → IsFailureOf r f
+    → IsFailureOf (op_step height op (record { state = s; placed = placed })) f
+op_failed height op s placed r NoMemory i h = tt
+op_failed height op s placed r (Code fill code) i h = i ∙ ap (with_state placed) h
+
+-- a match
+pub match_is : (height : ℕ) (op : Op) (taker : OrderId) (fills same : List Fill) (s : State) (placed : Placed) → op ≡ Match taker fills → same ≡ fills
+    → op_step height op (record { state = s; placed = placed }) ≡ with_state placed (match_step s placed taker same)
 unfolding op_step
-op_not_matched height op taker fills same s placed NoMemory i j h = tt
-op_not_matched height op taker fills same s placed (Code fill code) i j h =
-    ap (λ (x : Op). op_step height x (record { state = s; placed = placed })) i
-    ∙ ap (λ (xs : List Fill). match_step s placed taker xs >>= λ x. Ok (record { state = x; placed = placed })) (sym j)
-    ∙ ap (λ r. r >>= λ x. Ok (record { state = x; placed = placed })) h
+match_is height op taker fills same s placed i j =
+    ap (λ (x : Op). op_step height x (record { state = s; placed = placed })) i ∙ ap (λ (xs : List Fill). with_state placed (match_step s placed taker xs)) (sym j)
+
+-- a liquidation
+pub liquidation_is : (height : ℕ) (op : Op) (who : SubaccountId) (market : ℕ) (fills same : List Fill) (s : State) (placed : Placed) → op ≡ Liquidate who market fills → same ≡ fills
+    → op_step height op (record { state = s; placed = placed }) ≡ with_state placed (liquidation_step s placed who market same)
+unfolding op_step
+liquidation_is height op who market fills same s placed i j =
+    ap (λ (x : Op). op_step height x (record { state = s; placed = placed })) i ∙ ap (λ (xs : List Fill). with_state placed (liquidation_step s placed who market xs)) (sym j)
+
+-- a deleveraging
+pub deleveraging_is : (height : ℕ) (op : Op) (who : SubaccountId) (market : ℕ) (offsets same : List Offset) (s : State) (placed : Placed) → op ≡ Delever who market offsets → same ≡ offsets
+    → op_step height op (record { state = s; placed = placed }) ≡ with_state placed (deleveraging_step s who market same)
+unfolding op_step
+deleveraging_is height op who market offsets same s placed i j =
+    ap (λ (x : Op). op_step height x (record { state = s; placed = placed })) i ∙ ap (λ (xs : List Offset). with_state placed (deleveraging_step s who market xs)) (sym j)
+
+-- a removal
+pub removal_is : (height : ℕ) (op : Op) (id : OrderId) (s : State) (placed : Placed) → op ≡ Remove id
+    → op_step height op (record { state = s; placed = placed }) ≡ with_state placed (fail_as (at_fill 0) (remove_step s id))
+unfolding op_step
+removal_is height op id s placed i = ap (λ (x : Op). op_step height x (record { state = s; placed = placed })) i
+
+pub first_failure : {A : Type 0} (r : Result A ℕ) (f : OpFault) → IsFaultOf r f → IsFailureOf (fail_as (at_fill 0) r) f
+first_failure r NoMemory h = tt
+first_failure r (Code fill code) h = ap (fail_as (at_fill 0)) h.1 ∙ ap (λ n. Err (at_fill n code)) (sym h.0)
+
+-- the fills or offsets of an operation are no more than it may have
+pub few_matched : (op : Op) (taker : OrderId) (fills same : List Fill) (n : ℕ) → op ≡ Match taker fills → same ≡ fills → fills_in op ≤ n → length same ≤ n
+few_matched op taker fills same n i j h = subst (λ k. k ≤ n) (ap fills_in i ∙ ap length (sym j)) h
+
+pub few_liquidated : (op : Op) (who : SubaccountId) (market : ℕ) (fills same : List Fill) (n : ℕ) → op ≡ Liquidate who market fills → same ≡ fills → fills_in op ≤ n → length same ≤ n
+few_liquidated op who market fills same n i j h = subst (λ k. k ≤ n) (ap fills_in i ∙ ap length (sym j)) h
+
+pub few_delevered : (op : Op) (who : SubaccountId) (market : ℕ) (offsets same : List Offset) (n : ℕ) → op ≡ Delever who market offsets → same ≡ offsets → fills_in op ≤ n → length same ≤ n
+few_delevered op who market offsets same n i j h = subst (λ k. k ≤ n) (ap fills_in i ∙ ap length (sym j)) h
+
+each_within : (n : ℕ) (ops : List Op) → sum_by fills_in ops ≤ n → AllByRecursion (λ op. fills_in op ≤ n) ops
+each_within n [] h = tt
+each_within n (op ∷ ops) h =
+    let e : fills_in op + sum_by fills_in ops ≤ n = subst (λ k. k ≤ n) (sum_by-cons fills_in op ops) h in
+    (omega (arith, e), each_within n ops (omega (arith, e)))
+
+-- what is not too much
+pub few_ops : (ops : List Op) → has_too_many_ops ops ≡ false → (length ops ≤ most_operations) × All (λ op. fills_in op ≤ most_fills) ops
+few_ops ops e =
+    let a = or_parts (nat_lt most_operations (length ops)) (nat_lt most_fills (sum_by fills_in ops)) e in
+    (ltb-false most_operations (length ops) a.0, All-from_recursion (λ op. fills_in op ≤ most_fills) ops (each_within most_fills ops (ltb-false most_fills (sum_by fills_in ops) a.1)))
 
 -- the operation of a number
 pub op_done : (height n : ℕ) (op : Op) (p q : Progress) → op_step height op p ≡ Ok q → op_at height n op p ≡ Ok q
@@ -109,11 +135,7 @@ op_done height n op p q e = ap (fail_as (λ f. record { part = operations_part; 
 pub op_bad : (height n : ℕ) (op : Op) (p : Progress) (f : OpFault) → IsFailureOf (op_step height op p) f → Refuses (bad_at n f) (op_at height n op p)
 unfolding op_at
 op_bad height n op p NoMemory h = tt
-op_bad height n op p (Code fill code) h =
-    elim (nat_lt n (2 ^ 32)) as (λ b. Refuses (cond b (block.Bad (record { part = operations_part; index = n; fill = fill; code = code })) block.NoMemory) (op_at height n op p)) [
-      | true ↦ ap (fail_as (λ f. record { part = operations_part; index = n; fill = f.fill; code = f.code })) h
-      | false ↦ tt
-    ]
+op_bad height n op p (Code fill code) h = ap (fail_as (λ f. record { part = operations_part; index = n; fill = f.fill; code = f.code })) h
 
 -- what all operations come to
 pub ops_done : (s : State) (height : ℕ) (ops : List Op) (placed : Placed) (p : Progress) → placed ≡ empty
@@ -128,9 +150,3 @@ unfolding ops_step
 ops_bad s height ops placed block.NoMemory i h = tt
 ops_bad s height ops placed (block.Bad part) i h =
     ap (λ (x : Placed). try_each (op_at height) 0 ops (record { state = s; placed = x }) >>= λ q. Ok q.state) (sym i) ∙ ap (λ r. r >>= λ (q : Progress). Ok q.state) h
-
--- a bad operation is the first of all
-pub bad_turn : {S X : Type 0} (step : ℕ → X → S → Result S BadPart) (i : ℕ) (xs : List X) (d : X) (s : S) (whole : Result S BadPart) (f : BlockFault) → i < length xs
-    → try_each step i (drop i xs) s ≡ whole → Refuses f (step i (get_or xs i d) s) → Refuses f whole
-bad_turn step i xs d s whole block.NoMemory h m e = tt
-bad_turn step i xs d s whole (block.Bad part) h m e = sym m ∙ failed_turn step i xs d s part h e

@@ -1,8 +1,8 @@
--- The operations that are carried out yet.
+-- The operations of orders alone.
 use Rattle.dx_types.specs.declared.Op.{Op}
 use Rattle.dx_types.specs.declared.Op.TheVariants.{Place, Match, Liquidate, Delever, Remove}
 
--- orders are placed and matched; liquidations, deleveragings and removals are not carried out yet
+-- an operation that places or matches orders
 abbrev pub IsBuilt : Op → Type 0
 IsBuilt (Place o) = Unit {0}
 IsBuilt (Match taker fills) = Unit {0}

@@ -1,5 +1,5 @@
 -- The numbers of refusals, and how a fault agrees with what an operation answers.
-use Rattle.std.specs.Prelude.{◌≡◌, ℕ, ◌^◌, nat_lt, if◌then◌else◌, Result, Err}
+use Rattle.std.specs.Prelude.{◌≡◌, ℕ, Result, Err}
 use Rattle.dx_ledger.specs.declared.faults.OpFault.{OpFault}
 use Rattle.dx_ledger.specs.declared.faults.OpFault.TheVariants.{Code, NoMemory}
 use Rattle.dx_spec.specs.Codes as codes
@@ -22,14 +22,14 @@ code_of BadRole = codes.bad_role
 abbrev pub op_fault : OpRefusal → OpFault
 op_fault r = Code 0 (code_of r)
 
--- the fault of the fill of a number; a number past 32 bits has no name
+-- the fault of the fill or offset of a number
 abbrev pub fault_at : ℕ → OpFault → OpFault
-fault_at n (Code fill code) = if nat_lt n (2 ^ 32) then Code n code else NoMemory
+fault_at n (Code fill code) = Code n code
 fault_at n NoMemory = NoMemory
 
--- the fault of the operation of a number; a number past 32 bits has no name
+-- the fault of the operation of a number
 abbrev pub bad_at : ℕ → OpFault → BlockFault
-bad_at n (Code fill code) = if nat_lt n (2 ^ 32) then block.Bad (record { part = codes.operations_part; index = n; fill = fill; code = code }) else block.NoMemory
+bad_at n (Code fill code) = block.Bad (record { part = codes.operations_part; index = n; fill = fill; code = code })
 bad_at n NoMemory = block.NoMemory
 
 -- a fault is the failure that the definition gives; memory may be short at any time

@@ -8,7 +8,7 @@ ghost use Rattle.dx_maps.specs.Tables.{map_of};
 ghost use Rattle.dx_spec.specs.State.{is_kept as kept_in};
 ghost use Rattle.dx_spec.specs.Orders.{newer as is_newer};
 ghost use Rattle.dx_spec.specs.Operations.{is_good_order as good_order, place_step};
-ghost use Rattle.dx_trade.specs.Refusals.{IsFaultOf};
+ghost use Rattle.dx_accounts.specs.Faults.{IsFaultOf};
 ghost use Rattle.dx_operations.specs.Refusals.{code_of};
 ghost use Rattle.dx_operations.specs.Midway.{IsMidway};
 
@@ -41,7 +41,8 @@ fn is_good_order<L: Ledger>(l: &L, height: u32, o: &Order) -> bool
 /// Whether an order of the id is placed that the order is not newer than ("Replacement (newer)" in
 /// docs/RULES.md).
 fn has_as_new(placed: &BTreeMap<OrderId, Order>, o: &Order) -> bool
-    ensures { result ≡ option_map_or (λ p. not (is_newer o.now p)) (order_at (map_of order_id_cmp placed.now) o.now.id) false }
+    ensures { result ≡ option_map_or (λ p. not (is_newer o.now p)) (order_at
+        (map_of order_id_cmp placed.now) o.now.id) false }
 {
     match get_copy(placed, o.id) {
         Some(p) => !newer(o, &p),
@@ -58,8 +59,10 @@ fn check_placing<L: Ledger>(
     height: u32,
     o: &Order,
 ) -> Result<(), OpRefusal>
-    ensures ok { OnOk result (place_step (L.content l.now) (map_of order_id_cmp placed.now) height o.now ≡ Ok (with_order (map_of order_id_cmp placed.now) o.now.id o.now)) }
-    ensures refused { IfErr result (λ r. place_step (L.content l.now) (map_of order_id_cmp placed.now) height o.now ≡ Err (code_of r)) }
+    ensures ok { OnOk result (place_step (L.content l.now) (map_of order_id_cmp placed.now) height o.now
+        ≡ Ok (with_order (map_of order_id_cmp placed.now) o.now.id o.now)) }
+    ensures refused { IfErr result (λ r. place_step (L.content l.now) (map_of order_id_cmp placed.now) height o.now
+        ≡ Err (code_of r)) }
     ensures good { OnOk result (good_order (L.content l.now) height o.now ≡ true) }
 {
     if !is_good_order(l, height, o) {
@@ -73,7 +76,8 @@ fn check_placing<L: Ledger>(
 
 /// Keeps an order under its id, in the place of one that stands there.
 fn keep(placed: &mut BTreeMap<OrderId, Order>, o: &Order) -> Result<(), NoMemory>
-    ensures ok { OnOk result (map_of order_id_cmp placed.new ≡ with_order (map_of order_id_cmp placed.old) o.now.id o.now) }
+    ensures ok { OnOk result (map_of order_id_cmp placed.new
+        ≡ with_order (map_of order_id_cmp placed.old) o.now.id o.now) }
     ensures err { OnErr result (map_of order_id_cmp placed.new ≡ map_of order_id_cmp placed.old) }
 {
     match insert(placed, o.id, *o) {
@@ -93,8 +97,10 @@ pub(crate) fn place<L: Ledger>(
     o: &Order,
 ) -> Result<(), OpFault>
     requires { IsMidway height (L.content l.now) (map_of order_id_cmp placed.old) }
-    ensures ok { OnOk result (place_step (L.content l.now) (map_of order_id_cmp placed.old) height o.now ≡ Ok (map_of order_id_cmp placed.new)) }
-    ensures code { IfErr result (IsFaultOf (place_step (L.content l.now) (map_of order_id_cmp placed.old) height o.now)) }
+    ensures ok { OnOk result (place_step (L.content l.now) (map_of order_id_cmp placed.old) height o.now
+        ≡ Ok (map_of order_id_cmp placed.new)) }
+    ensures code { IfErr result (IsFaultOf (place_step (L.content l.now)
+        (map_of order_id_cmp placed.old) height o.now)) }
     ensures err { OnErr result (map_of order_id_cmp placed.new ≡ map_of order_id_cmp placed.old) }
     ensures midway { OnOk result (IsMidway height (L.content l.now) (map_of order_id_cmp placed.new)) }
 {

@@ -1,330 +1,390 @@
--- The end of a block on a state without votes and stateful orders, whose samples are zeros.
-use Rattle.std.proofs.lemmas.List.{length-map}
-use Rattle.std.proofs.Common.{◌≡◌, ◌+◌, ◌-◌, ◌/◌, ◌%◌, ◌<◌, ◌≤◌, ℕ, zero, suc, Bool, true, false, cond, ◌==◌, ℤ, pos, negsuc, neg_ℤ, ◌+ℤ◌, ◌*ℤ◌, List, [], ◌∷◌, ◌++◌, map, zip, length, replicate, Option, Some, None, refl, sym, ap, subst, ◌∙◌, arith, add-one, slice_index_or}
-use Rattle.std.specs.Option.{option_map_or}
-use Rattle.std.specs.Prelude.{All, unsigned_abs, nat_le, slice_get, slice_set, int_lt, nat_lt, unwrap_or, not, ◌||◌}
-use Rattle.std.specs.declared.cmp.Ordering.{Ordering}
-use Rattle.std.specs.Cmp.{IsTotalOrder}
-use Rattle.std.specs.FinMap.{FinMap, IsAntisymmetric, empty, get, retain_keys, same_map, get-retain_keys, get-empty}
-use Rattle.std.proofs.Math.Nat.{zero-div}
-use Rattle.std.proofs.lemmas.Int.{ints, clamps}
-use Rattle.std.proofs.lemmas.Bool.{le-ltb}
-use Rattle.std.proofs.lemmas.Option.{slice_get-get_or, unwrap_or-slice_get}
-use Rattle.std.proofs.lemmas.List.Elements.{All-head, All-tail, All-cons, All-nil, All-append}
-use Rattle.dx_types.specs.Keys.{order_id_cmp, order_id_total, order_id_exact}
-use Rattle.dx_types.specs.declared.OrderId.{OrderId}
-use Rattle.dx_types.specs.declared.Order.{Order}
-use Rattle.dx_types.specs.declared.MarketInfo.{MarketInfo}
+-- The ticks at the end of a block, market by market.
+use Prim.Native.Nat.{zero}
+use Rattle.std.proofs.Common.{◌≡◌, ◌+◌, ◌<◌, ◌≤◌, ℕ, suc, true, false, ℤ, List, [], ◌∷◌, ◌++◌, map, zip, length, Option, Some, option_map, refl, sym, ap, subst, ◌∙◌, arith, add-one}
+use Rattle.std.specs.Prelude.{All, IsSome, is_some, slice_get, slice_set, nat_lt, unwrap_or}
+use Rattle.std.proofs.lemmas.Bool.{cond_both, le-ltb}
+use Rattle.std.proofs.lemmas.List.{length-map, length-append}
+use Rattle.std.proofs.lemmas.List.Elements.{All-head, All-tail, All-cons, All-nil}
+use Rattle.std.proofs.lemmas.Option.{slice_get-map}
 use Rattle.dx_types.specs.declared.Clock.{Clock}
-use Rattle.dx_num.specs.Rounding.{trunc_div, clamp, ten_up, ten_down, int_sum_by}
-use Rattle.dx_spec.specs.Lists.{put_by, sorted_by}
-use Rattle.dx_spec.specs.State.{State, filled_of}
-use Rattle.dx_spec.specs.Bounds.{most_index, sample_epoch, funding_epoch}
-use Rattle.dx_spec.specs.Margin.{value_exponent}
-use Rattle.dx_spec.specs.Premiums.{middle, median, rate, index_after, next_tick}
-use Rattle.dx_spec.specs.Blocks.{is_ending, is_prunable, drop_ended, take_samples, take_funding, end_step}
+use Rattle.dx_types.specs.declared.MarketInfo.{MarketInfo}
+use Rattle.dx_types.specs.declared.MarketParams.{MarketParams}
+use Rattle.dx_spec.specs.State.{State}
+use Rattle.dx_spec.specs.Bounds.{sample_epoch, funding_epoch}
+use Rattle.dx_spec.specs.Premiums.{median, next_tick}
+use Rattle.dx_spec.specs.Blocks.{take_samples, take_funding}
+use Rattle.dx_spec.proofs.Places.{at_all}
 use Rattle.dx_ledger.specs.Reads.{of_number}
-use Rattle.dx_ledger.specs.Writes.{with_samples, with_clock}
-use Rattle.dx_rules.specs.Settled.{AreZeros}
-use Rattle.dx_rules.specs.Stages.{IsEnding, HasPlace, pruned, moved, with_each, one_more_zero, no_samples}
+use Rattle.dx_ledger.specs.Writes.{with_clock, with_samples, with_votes, with_market, IsOfGenesis}
+use Rattle.dx_margin.specs.Ranges.{IsMarket}
+use Rattle.dx_rules.specs.Stages.{IsEnding, HasPlace, HasFew, ended, pruned, moved, with_medians, no_votes, no_samples, index_moved, with_steps}
 
-abbrev zeros : ℕ → List ℤ
-zeros n = replicate n (pos 0)
+-- the first elements of a list, and then the rest of another
+pub first_of : {X : Type 0} → ℕ → List X → List X → List X
+first_of zero new old = old
+first_of (suc k) [] old = old
+first_of (suc k) (x ∷ new) [] = []
+first_of (suc k) (x ∷ new) (y ∷ old) = x ∷ first_of k new old
 
-put_zero : (n : ℕ) → put_by int_lt (pos 0) (zeros n) ≡ zeros (suc n)
-put_zero zero = refl
-put_zero (suc n) = refl
+module _ {X : Type 0} where
+  pub none_new : (new old : List X) → old ≡ first_of 0 new old
+  unfolding first_of
+  none_new new old = refl
 
-sorted_zeros : (n : ℕ) → sorted_by int_lt (zeros n) ≡ zeros n
-sorted_zeros zero = refl
-sorted_zeros (suc n) = ap (put_by int_lt (pos 0)) (sorted_zeros n) ∙ put_zero n
+  -- the next one is as it was
+  pub next_old : (k : ℕ) (new old : List X) → slice_get (first_of k new old) k ≡ slice_get old k
+  unfolding first_of
+  next_old zero new old = refl
+  next_old (suc k) [] old = refl
+  next_old (suc k) (x ∷ new) [] = refl
+  next_old (suc k) (x ∷ new) (y ∷ old) = next_old k new old
 
-among_zeros : (n k : ℕ) → slice_index_or (zeros n) k (pos 0) ≡ pos 0
-among_zeros zero k = refl
-among_zeros (suc n) zero = refl
-among_zeros (suc n) (suc k) = among_zeros n k
+  -- one more is new
+  one_new : (k : ℕ) (new old : List X) (v : X) → slice_get new k ≡ Some v → k < length old → slice_set (first_of k new old) k v ≡ first_of (suc k) new old
+  unfolding first_of
+  one_new zero [] old v e h = absurd (cc)
+  one_new zero (x ∷ new) [] v e h = absurd (omega (arith, h))
+  one_new zero (x ∷ new) (y ∷ old) v e h = let same : v ≡ x = cc in ap (λ z. z ∷ old) same
+  one_new (suc k) [] old v e h = absurd (cc)
+  one_new (suc k) (x ∷ new) [] v e h = refl
+  one_new (suc k) (x ∷ new) (y ∷ old) v e h = ap (λ zs. x ∷ zs) (one_new k new old v e (omega (arith, h)))
 
-one_of : (b : Bool) (x y : ℤ) → x ≡ pos 0 → y ≡ pos 0 → cond b x y ≡ pos 0
-one_of true x y p q = p
-one_of false x y p q = q
+  pub one_more_new : (k : ℕ) (new old : List X) (v : X) → slice_get new k ≡ Some v → k < length old → slice_set (first_of k new old) k v ≡ first_of (k + 1) new old
+  one_more_new k new old v e h = rw add-one (one_new k new old v e h)
 
-half_nothing : (x y : ℤ) → x ≡ pos 0 → y ≡ pos 0 → trunc_div (x +ℤ y) (pos 2) ≡ pos 0
-unfolding trunc_div
-half_nothing x y p q = rw (p, q) refl
+  -- all are new
+  pub all_new : (k : ℕ) (new old : List X) → length new ≡ length old → length old ≤ k → first_of k new old ≡ new
+  unfolding first_of
+  all_new zero [] [] e h = refl
+  all_new zero [] (y ∷ old) e h = absurd (omega (arith, h))
+  all_new zero (x ∷ new) old e h = absurd (omega (arith, e, h))
+  all_new (suc k) [] [] e h = refl
+  all_new (suc k) [] (y ∷ old) e h = absurd (omega (arith, e))
+  all_new (suc k) (x ∷ new) [] e h = absurd (omega (arith, e))
+  all_new (suc k) (x ∷ new) (y ∷ old) e h = ap (λ zs. x ∷ zs) (all_new k new old (omega (arith, e)) (omega (arith, h)))
 
-middle_zeros : (n : ℕ) → middle (zeros n) ≡ pos 0
-middle_zeros n =
-    let vs = zeros n in
-    one_of (length vs % 2 == 1) (slice_index_or vs (length vs / 2) (pos 0)) (trunc_div (slice_index_or vs (length vs / 2 - 1) (pos 0) +ℤ slice_index_or vs (length vs / 2) (pos 0)) (pos 2))
-    (among_zeros n (length vs / 2)) (half_nothing _ _ (among_zeros n (length vs / 2 - 1)) (among_zeros n (length vs / 2)))
+-- an element within a list
+pub there : {X : Type 0} (xs : List X) (k : ℕ) → k < length xs → (x : X) × (slice_get xs k ≡ Some x)
+there [] k h = absurd (omega (arith, h))
+there (x ∷ xs) zero h = (x, refl)
+there (x ∷ xs) (suc k) h = there xs k (omega (arith, h))
 
--- the median of no votes
-median-none : (least : ℕ) → median [] least ≡ pos 0
-unfolding median
-median-none least = ap middle (sorted_zeros (least - 0)) ∙ middle_zeros (least - 0)
+module _ {X Y : Type 0} where
+  get_zip : (xs : List X) (ys : List Y) (k : ℕ) (x : X) (y : Y) → slice_get xs k ≡ Some x → slice_get ys k ≡ Some y → slice_get (zip xs ys) k ≡ Some (x, y)
+  get_zip [] ys k x y e f = absurd (cc)
+  get_zip (a ∷ xs) [] k x y e f = absurd (cc)
+  get_zip (a ∷ xs) (b ∷ ys) zero x y e f = let i : a ≡ x = cc in let j : b ≡ y = cc in λ n. Some (i n, j n)
+  get_zip (a ∷ xs) (b ∷ ys) (suc k) x y e f = get_zip xs ys k x y e f
 
-sum_zeros : (xs : List ℤ) → AreZeros xs → int_sum_by (λ x. x) xs ≡ pos 0
-sum_zeros [] h = refl
-sum_zeros (x ∷ xs) h = rw (All-head (λ z. z ≡ pos 0) x xs h, sum_zeros xs (All-tail (λ z. z ≡ pos 0) x xs h)) refl
+  length_zip : (xs : List X) (ys : List Y) → length ys ≡ length xs → length (zip xs ys) ≡ length xs
+  length_zip [] ys e = refl
+  length_zip (x ∷ xs) [] e = absurd (omega (arith, e))
+  length_zip (x ∷ xs) (y ∷ ys) e = ap suc (length_zip xs ys (omega (arith, e)))
 
-clamp-zero : (n : ℕ) → clamp (pos 0) (neg_ℤ (pos n)) (pos n) ≡ pos 0
-clamp-zero n = omega (arith, ints, clamps)
+  module _ {Z : Type 0} (f : X × Y → Z) where
+    -- a joined list at a place
+    pub get_joined : (xs : List X) (ys : List Y) (k : ℕ) (x : X) (y : Y) → slice_get xs k ≡ Some x → slice_get ys k ≡ Some y → slice_get (map f (zip xs ys)) k ≡ Some (f (x, y))
+    get_joined xs ys k x y e g = slice_get-map f (zip xs ys) k ∙ ap (option_map f) (get_zip xs ys k x y e g)
 
--- the rate of no premiums
-rate-zeros : (xs : List ℤ) (cap : ℕ) → AreZeros xs → rate xs cap ≡ pos 0
-unfolding rate trunc_div
-rate-zeros xs cap h = rw (sum_zeros xs h) (clamp-zero cap)
+    pub length_joined : (xs : List X) (ys : List Y) → length ys ≡ length xs → length (map f (zip xs ys)) ≡ length xs
+    length_joined xs ys e = length-map (zip xs ys) f ∙ length_zip xs ys e
 
-nothing_times : (x : ℤ) → pos 0 *ℤ x ≡ pos 0
-nothing_times x = omega (arith, ints)
+    -- what a joined list keeps of the first
+    map_joined : {W : Type 0} (g : Z → W) (h : X → W) → ((x : X) (y : Y) → g (f (x, y)) ≡ h x) → (xs : List X) (ys : List Y) → length ys ≡ length xs → map g (map f (zip xs ys)) ≡ map h xs
+    map_joined g h same [] ys e = refl
+    map_joined g h same (x ∷ xs) [] e = absurd (omega (arith, e))
+    map_joined g h same (x ∷ xs) (y ∷ ys) e = ap (λ w. w ∷ map g (map f (zip xs ys))) (same x y) ∙ ap (λ ws. h x ∷ ws) (map_joined g h same xs ys (omega (arith, e)))
 
-nothing_over : (y : ℤ) → trunc_div (pos 0) y ≡ pos 0
-unfolding trunc_div
-nothing_over (pos n) = ap pos (zero-div n)
-nothing_over (negsuc n) = ap (λ k. neg_ℤ (pos k)) (zero-div (suc n))
+    all_joined : (P : X → Type 0) (Q : Z → Type 0) → ((x : X) (y : Y) → P x → Q (f (x, y))) → (xs : List X) (ys : List Y) → All P xs → All Q (map f (zip xs ys))
+    all_joined P Q g [] ys h = All-nil Q
+    all_joined P Q g (x ∷ xs) [] h = All-nil Q
+    all_joined P Q g (x ∷ xs) (y ∷ ys) h = All-cons Q (f (x, y)) (map f (zip xs ys)) (g x y (All-head P x xs h)) (all_joined P Q g xs ys (All-tail P x xs h))
 
-within_index : (z : ℤ) (n : ℕ) → unsigned_abs z ≤ n → clamp (z +ℤ pos 0) (neg_ℤ (pos n)) (pos n) ≡ z
-within_index z n h = omega (arith, ints, clamps, h)
+abbrev no_list : List ℤ → List ℤ
+no_list xs = []
 
--- the index at rate 0
-index_after-zero : (m : MarketInfo) → unsigned_abs m.index ≤ most_index → index_after m (pos 0) ≡ m.index
-unfolding index_after
-index_after-zero m h =
-    let x = value_exponent m.params in
-    let d : trunc_div (pos 0 *ℤ pos m.price *ℤ ten_up x) (pos 8 *ℤ ten_down x) ≡ pos 0 =
-    ap (λ z. trunc_div (z *ℤ ten_up x) (pos 8 *ℤ ten_down x)) (nothing_times (pos m.price)) ∙ ap (λ z. trunc_div z (pos 8 *ℤ ten_down x)) (nothing_times (ten_up x)) ∙ nothing_over (pos 8 *ℤ ten_down x) in
-    ap (λ z. clamp (m.index +ℤ z) (neg_ℤ (pos most_index)) (pos most_index)) d ∙ within_index m.index most_index h
+get_none : (xs : List (List ℤ)) (k : ℕ) → k < length xs → slice_get (map no_list xs) k ≡ Some []
+get_none xs k h = slice_get-map no_list xs k ∙ ap (option_map no_list) (there xs k h).1
 
-pub cond_none : {X : Type 0} (b : Bool) → ◌≡◌ {A = Option X} (cond b None None) None
-cond_none true = refl
-cond_none false = refl
+few_none : (xs : List (List ℤ)) → HasFew (map no_list xs)
+few_none [] = All-nil (λ (x : List ℤ). length x ≤ 60)
+few_none (x ∷ xs) = All-cons (λ (x : List ℤ). length x ≤ 60) [] (map no_list xs) (omega arith) (few_none xs)
 
-module _ {K X : Type 0} (R : K → K → Ordering) (total : IsTotalOrder R) (exact : IsAntisymmetric R) where
-  -- nothing is kept of nothing
-  retain-empty : (p : K → Bool) → retain_keys (empty {X = X} {R = R}) p ≡ empty
-  retain-empty p = same_map total exact _ _ (λ q. get-retain_keys (empty {X = X} {R = R}) p q (λ x e. ap p (sym (exact q x e))) ∙ ap (λ o. cond (p q) o None) (get-empty R q) ∙ cond_none (p q) ∙ sym (get-empty R q))
+-- the lists of a number within its count
+at_number : (lists : List (List ℤ)) (k : ℕ) (items xs : List ℤ) → items ≡ of_number lists k → slice_get lists k ≡ Some xs → items ≡ xs
+at_number lists k items xs i e = i ∙ ap (λ o. unwrap_or o []) e
 
--- no stateful order ends where none stands
-none_ending : (s : State) (time : ℕ) (id : OrderId) → s.stateful ≡ empty → is_ending s time id ≡ false
-none_ending s time id e =
-    ap (λ (m : FinMap order_id_cmp Order). option_map_or (λ o. nat_le o.until time || filled_of s id == o.size) (get m id) false) e
-    ∙ ap (λ (o : Option Order). option_map_or (λ o. nat_le o.until time || filled_of s id == o.size) o false) (get-empty order_id_cmp id)
+few_at : (lists : List (List ℤ)) (k : ℕ) (xs : List ℤ) → HasFew lists → slice_get lists k ≡ Some xs → length xs ≤ 60
+few_at lists k xs h e = at_all (λ (x : List ℤ). length x ≤ 60) lists h k xs e
 
--- only records are dropped
-pub drop_ended-quiet : (height time : ℕ) (s : State) → s.stateful ≡ empty → drop_ended height time s ≡ pruned height s
-unfolding drop_ended
-drop_ended-quiet height time s e =
-    let orders : retain_keys s.stateful (λ id. not (is_ending s time id)) ≡ s.stateful =
-    ap (λ (m : FinMap order_id_cmp Order). retain_keys m (λ id. not (is_ending s time id))) e ∙ retain-empty order_id_cmp order_id_total order_id_exact (λ id. not (is_ending s time id)) ∙ sym e in
-    let records : retain_keys s.filled (λ id. not (is_ending s time id || is_prunable s height id)) ≡ retain_keys s.filled (λ id. not (is_prunable s height id)) =
-    λ i. retain_keys s.filled (λ id. not (none_ending s time id e i || is_prunable s height id)) in
-    λ i. record s { stateful = orders i; filled = records i }
+place_at : (lists : List (List ℤ)) (k : ℕ) (xs : List ℤ) → HasPlace lists → slice_get lists k ≡ Some xs → length xs < 60
+place_at lists k xs h e = at_all (λ (x : List ℤ). length x < 60) lists h k xs e
 
--- no votes are left of no votes
-no_votes : (votes : List (List ℤ)) → All (λ xs. xs ≡ []) votes → map (λ (xs : List ℤ). []) votes ≡ votes
-no_votes [] h = refl
-no_votes (v ∷ vs) h = ap (λ xs. xs ∷ map (λ (ys : List ℤ). []) vs) (sym (All-head (λ xs. xs ≡ []) v vs h)) ∙ ap (λ xs. v ∷ xs) (no_votes vs (All-tail (λ xs. xs ≡ []) v vs h))
+-- the state when so many markets have their medians
+abbrev pub medians_so : ℕ → State → State
+medians_so k s = record s { samples = first_of k (with_medians s).samples s.samples }
 
--- each market has a zero more
-zeros_appended : (least : ℕ) (samples votes : List (List ℤ)) → All (λ xs. xs ≡ []) votes → length votes ≡ length samples → map (λ e. e.0 ++ median e.1 least ∷ []) (zip samples votes) ≡ map one_more_zero samples
-zeros_appended least [] votes h e = refl
-zeros_appended least (s ∷ ss) [] h e = absurd (omega (arith, e))
-zeros_appended least (s ∷ ss) (v ∷ vs) h e =
-    let zero_more : s ++ median v least ∷ [] ≡ one_more_zero s = ap (λ xs. s ++ median xs least ∷ []) (All-head (λ xs. xs ≡ []) v vs h) ∙ ap (λ z. s ++ z ∷ []) (median-none least) in
-    ap (λ (xs : List ℤ). xs ∷ map (λ e. e.0 ++ median e.1 least ∷ []) (zip ss vs)) zero_more ∙ ap (λ xs. one_more_zero s ∷ xs) (zeros_appended least ss vs (All-tail (λ xs. xs ≡ []) v vs h) (omega (arith, e)))
+-- when the votes of so many are taken away
+abbrev pub unvoted_so : ℕ → State → State
+unvoted_so k s = record s { votes = first_of k (no_votes s).votes s.votes }
 
--- the samples are taken
-pub take_samples-quiet : (time : ℕ) (s : State) → IsEnding s → nat_lt time s.clock.sample_next ≡ false
-    → take_samples time s ≡ record s { samples = map one_more_zero s.samples; clock = record s.clock { sample_next = next_tick s.clock.sample_next time sample_epoch } }
-unfolding take_samples
-take_samples-quiet time s p e =
-    rw e (λ i. record s {
-      samples = zeros_appended s.genesis.params.min_votes s.samples s.votes p.quiet.votes p.vote_count i;
-      votes = no_votes s.votes p.quiet.votes i;
-      clock = record s.clock { sample_next = next_tick s.clock.sample_next time sample_epoch };
+-- when the samples of so many are
+abbrev pub unsampled_so : ℕ → State → State
+unsampled_so k s = record s { samples = first_of k (no_samples s).samples s.samples }
+
+-- when the indices of so many have taken their step
+abbrev pub stepped_so : ℕ → State → State
+stepped_so k s = record s { markets = first_of k (with_steps s).markets s.markets }
+
+pub none_medians : (s : State) → s ≡ medians_so 0 s
+none_medians s = ap (λ (xs : List (List ℤ)). record s { samples = xs }) (none_new (with_medians s).samples s.samples)
+
+pub none_unvoted : (s : State) → s ≡ unvoted_so 0 s
+none_unvoted s = ap (λ (xs : List (List ℤ)). record s { votes = xs }) (none_new (no_votes s).votes s.votes)
+
+pub none_unsampled : (s : State) → s ≡ unsampled_so 0 s
+none_unsampled s = ap (λ (xs : List (List ℤ)). record s { samples = xs }) (none_new (no_samples s).samples s.samples)
+
+pub none_stepped : (s : State) → s ≡ stepped_so 0 s
+none_stepped s = ap (λ (ms : List MarketInfo). record s { markets = ms }) (none_new (with_steps s).markets s.markets)
+
+within : (n m k : ℕ) → n ≡ m → k < m → k < n
+within n m k e h = omega (arith, e, h)
+
+-- the samples of a market whose turn it is
+samples_at : (s t : State) (k : ℕ) (items : List ℤ) → t ≡ medians_so k s → items ≡ of_number t.samples k → k < length s.samples → (xs : List ℤ) × (slice_get s.samples k ≡ Some xs) × (items ≡ xs)
+samples_at s t k items e i h =
+    let x = there s.samples k h in
+    (x.0, x.1, at_number t.samples k items x.0 i (ap (λ (u : State). slice_get u.samples k) e ∙ next_old k (with_medians s).samples s.samples ∙ x.1))
+
+votes_at : (s t : State) (k : ℕ) (items : List ℤ) → t ≡ medians_so k s → items ≡ of_number t.votes k → k < length s.votes → (xs : List ℤ) × (slice_get s.votes k ≡ Some xs) × (items ≡ xs)
+votes_at s t k items e i h =
+    let x = there s.votes k h in
+    (x.0, x.1, at_number t.votes k items x.0 i (ap (λ (u : State). slice_get u.votes k) e ∙ x.1))
+
+-- it has room for a sample
+pub median_room : (s t : State) (k : ℕ) (items : List ℤ) → IsEnding s → HasPlace s.samples → t ≡ medians_so k s → items ≡ of_number t.samples k → k < length s.markets → length items < 60
+median_room s t k items p room e i h =
+    let x = samples_at s t k items e i (within (length s.samples) (length s.markets) k p.sample_count h) in
+    subst (λ (ys : List ℤ). length ys < 60) (sym x.2) (place_at s.samples k x.0 room x.1)
+
+-- and few votes
+pub median_few : (s t : State) (k : ℕ) (items : List ℤ) → IsEnding s → t ≡ medians_so k s → items ≡ of_number t.votes k → k < length s.markets → length items ≤ 60
+median_few s t k items p e i h =
+    let x = votes_at s t k items e i (within (length s.votes) (length s.markets) k p.vote_count h) in
+    subst (λ (ys : List ℤ). length ys ≤ 60) (sym x.2) (few_at s.votes k x.0 p.votes x.1)
+
+-- one more market has its median
+pub median_put : (s t u : State) (k : ℕ) (samples votes v : List ℤ) (least : ℕ) → IsEnding s → t ≡ medians_so k s → u ≡ with_samples t k v → samples ≡ of_number t.samples k → votes ≡ of_number t.votes k
+    → least ≡ s.genesis.params.min_votes → v ≡ samples ++ median votes least ∷ [] → k < length s.markets → u ≡ medians_so (k + 1) s
+median_put s t u k samples votes v least p e w i j n f h =
+    let x = samples_at s t k samples e i (within (length s.samples) (length s.markets) k p.sample_count h) in
+    let y = votes_at s t k votes e j (within (length s.votes) (length s.markets) k p.vote_count h) in
+    let joined : List ℤ × List ℤ → List ℤ = λ (z : List ℤ × List ℤ). z.0 ++ median z.1 s.genesis.params.min_votes ∷ [] in
+    let new : v ≡ x.0 ++ median y.0 s.genesis.params.min_votes ∷ [] =
+    f ∙ ap (λ (xs : List ℤ). xs ++ median votes least ∷ []) x.2 ∙ ap (λ (ys : List ℤ). x.0 ++ median ys least ∷ []) y.2 ∙ ap (λ m. x.0 ++ median y.0 m ∷ []) n in
+    w ∙ ap (λ (a : State). with_samples a k v) e ∙ ap (with_samples (medians_so k s) k) new
+    ∙ ap (λ (xs : List (List ℤ)). record s { samples = xs })
+    (one_more_new k (with_medians s).samples s.samples _ (get_joined joined s.samples s.votes k x.0 y.0 x.1 y.1) (within (length s.samples) (length s.markets) k p.sample_count h))
+
+-- all markets have them
+pub medians_all : (s t : State) (k : ℕ) → IsEnding s → t ≡ medians_so k s → length s.markets ≤ k → t ≡ with_medians s
+medians_all s t k p e h =
+    let joined : List ℤ × List ℤ → List ℤ = λ (z : List ℤ × List ℤ). z.0 ++ median z.1 s.genesis.params.min_votes ∷ [] in
+    let count = p.sample_count in
+    e ∙ ap (λ (xs : List (List ℤ)). record s { samples = xs })
+    (all_new k (with_medians s).samples s.samples (length_joined joined s.samples s.votes (p.vote_count ∙ sym p.sample_count)) (omega (arith, h, count)))
+
+-- the votes of one more market are taken away
+pub unvoted_put : (s t u : State) (k : ℕ) (v : List ℤ) → IsEnding s → t ≡ unvoted_so k s → u ≡ with_votes t k v → v ≡ [] → k < length s.markets → u ≡ unvoted_so (k + 1) s
+unvoted_put s t u k v p e w f h =
+    let lt = within (length s.votes) (length s.markets) k p.vote_count h in
+    w ∙ ap (λ (a : State). with_votes a k v) e ∙ ap (with_votes (unvoted_so k s) k) f
+    ∙ ap (λ (xs : List (List ℤ)). record s { votes = xs }) (one_more_new k (no_votes s).votes s.votes [] (get_none s.votes k lt) lt)
+
+pub unvoted_all : (s t : State) (k : ℕ) → IsEnding s → t ≡ unvoted_so k s → length s.markets ≤ k → t ≡ no_votes s
+unvoted_all s t k p e h =
+    let count = p.vote_count in
+    e ∙ ap (λ (xs : List (List ℤ)). record s { votes = xs }) (all_new k (no_votes s).votes s.votes (length-map s.votes no_list) (omega (arith, h, count)))
+
+-- the samples of one more market are
+pub unsampled_put : (s t u : State) (k : ℕ) (v : List ℤ) → IsEnding s → t ≡ unsampled_so k s → u ≡ with_samples t k v → v ≡ [] → k < length s.markets → u ≡ unsampled_so (k + 1) s
+unsampled_put s t u k v p e w f h =
+    let lt = within (length s.samples) (length s.markets) k p.sample_count h in
+    w ∙ ap (λ (a : State). with_samples a k v) e ∙ ap (with_samples (unsampled_so k s) k) f
+    ∙ ap (λ (xs : List (List ℤ)). record s { samples = xs }) (one_more_new k (no_samples s).samples s.samples [] (get_none s.samples k lt) lt)
+
+pub unsampled_all : (s t : State) (k : ℕ) → IsEnding s → t ≡ unsampled_so k s → length s.markets ≤ k → t ≡ no_samples s
+unsampled_all s t k p e h =
+    let count = p.sample_count in
+    e ∙ ap (λ (xs : List (List ℤ)). record s { samples = xs }) (all_new k (no_samples s).samples s.samples (length-map s.samples no_list) (omega (arith, h, count)))
+
+-- the market whose turn it is
+step_known : (s t : State) (k : ℕ) → t ≡ stepped_so k s → k < length s.markets → (m : MarketInfo) × (slice_get t.markets k ≡ Some m)
+step_known s t k e h =
+    let x = there s.markets k h in
+    (x.0, ap (λ (u : State). slice_get u.markets k) e ∙ next_old k (with_steps s).markets s.markets ∙ x.1)
+
+pub step_there : (s t : State) (k : ℕ) → t ≡ stepped_so k s → k < length s.markets → IsSome (slice_get t.markets k)
+step_there s t k e h = let m = step_known s t k e h in ap (λ (o : Option MarketInfo). is_some o) m.1
+
+step_market : (s t : State) (k : ℕ) (m : MarketInfo) → t ≡ stepped_so k s → slice_get t.markets k ≡ Some m → slice_get s.markets k ≡ Some m
+step_market s t k m e f = sym (ap (λ (u : State). slice_get u.markets k) e ∙ next_old k (with_steps s).markets s.markets) ∙ f
+
+-- its numbers are in their ranges
+pub step_ranges : (s t : State) (k : ℕ) (m : MarketInfo) → IsEnding s → t ≡ stepped_so k s → slice_get t.markets k ≡ Some m → IsMarket m
+step_ranges s t k m p e f = at_all IsMarket s.markets p.markets k m (step_market s t k m e f)
+
+step_samples : (s t : State) (k : ℕ) (items : List ℤ) → t ≡ stepped_so k s → items ≡ of_number t.samples k → k < length s.samples → (xs : List ℤ) × (slice_get s.samples k ≡ Some xs) × (items ≡ xs)
+step_samples s t k items e i h =
+    let x = there s.samples k h in
+    (x.0, x.1, at_number t.samples k items x.0 i (ap (λ (u : State). slice_get u.samples k) e ∙ x.1))
+
+-- it has few samples
+pub step_few : (s t : State) (k : ℕ) (items : List ℤ) → IsEnding s → HasFew s.samples → t ≡ stepped_so k s → items ≡ of_number t.samples k → k < length s.markets → length items ≤ 60
+step_few s t k items p few e i h =
+    let x = step_samples s t k items e i (within (length s.samples) (length s.markets) k p.sample_count h) in
+    subst (λ (ys : List ℤ). length ys ≤ 60) (sym x.2) (few_at s.samples k x.0 few x.1)
+
+-- its parameters stay
+pub step_params : (s t : State) (k : ℕ) (m v : MarketInfo) (samples : List ℤ) → IsEnding s → t ≡ stepped_so k s → slice_get t.markets k ≡ Some m → v ≡ index_moved m samples → IsOfGenesis t k v
+step_params s t k m v samples p e f g =
+    ap (λ (u : State). slice_get u.genesis.params.markets k) e ∙ ap (λ (ps : List MarketParams). slice_get ps k) (sym p.params)
+    ∙ slice_get-map (λ m. m.params) s.markets k ∙ ap (option_map (λ (x : MarketInfo). x.params)) (step_market s t k m e f) ∙ ap (λ (x : MarketInfo). Some x.params) (sym g)
+
+-- the index of one more market has taken its step
+pub step_put : (s t u : State) (k : ℕ) (m v : MarketInfo) (samples : List ℤ) → IsEnding s → t ≡ stepped_so k s → slice_get t.markets k ≡ Some m → samples ≡ of_number t.samples k → v ≡ index_moved m samples → u ≡ with_market t k v
+    → k < length s.markets → u ≡ stepped_so (k + 1) s
+step_put s t u k m v samples p e f i g w h =
+    let x = step_samples s t k samples e i (within (length s.samples) (length s.markets) k p.sample_count h) in
+    let joined : MarketInfo × List ℤ → MarketInfo = λ (z : MarketInfo × List ℤ). index_moved z.0 z.1 in
+    w ∙ ap (λ (a : State). with_market a k v) e ∙ ap (with_market (stepped_so k s) k) (g ∙ ap (index_moved m) x.2)
+    ∙ ap (λ (ms : List MarketInfo). record s { markets = ms })
+    (one_more_new k (with_steps s).markets s.markets _ (get_joined joined s.markets s.samples k m x.0 (step_market s t k m e f) x.1) h)
+
+pub steps_all : (s t : State) (k : ℕ) → IsEnding s → t ≡ stepped_so k s → length s.markets ≤ k → t ≡ with_steps s
+steps_all s t k p e h =
+    let joined : MarketInfo × List ℤ → MarketInfo = λ (z : MarketInfo × List ℤ). index_moved z.0 z.1 in
+    e ∙ ap (λ (ms : List MarketInfo). record s { markets = ms }) (all_new k (with_steps s).markets s.markets (length_joined joined s.markets s.samples p.sample_count) h)
+
+-- medians leave what a state has at the end of a block
+pub IsEnding-medians : (s t : State) → t ≡ with_medians s → IsEnding s → IsEnding t
+IsEnding-medians s t e p =
+    let joined : List ℤ × List ℤ → List ℤ = λ (z : List ℤ × List ℤ). z.0 ++ median z.1 s.genesis.params.min_votes ∷ [] in
+    subst IsEnding (sym e) (record {
+      genesis = p.genesis;
+      params = p.params;
+      market_count = p.market_count;
+      few_markets = p.few_markets;
+      markets = p.markets;
+      vote_count = p.vote_count;
+      votes = p.votes;
+      sample_count = length_joined joined s.samples s.votes (p.vote_count ∙ sym p.sample_count) ∙ p.sample_count;
     })
 
+-- so do steps
+pub IsEnding-steps : (s t : State) → t ≡ with_steps s → IsEnding s → IsEnding t
+IsEnding-steps s t e p =
+    let joined : MarketInfo × List ℤ → MarketInfo = λ (z : MarketInfo × List ℤ). index_moved z.0 z.1 in
+    let counted = length_joined joined s.markets s.samples p.sample_count in
+    subst IsEnding (sym e) (record {
+      genesis = p.genesis;
+      params = map_joined joined (λ m. m.params) (λ m. m.params) (λ m xs. refl) s.markets s.samples p.sample_count ∙ p.params;
+      market_count = counted ∙ p.market_count;
+      few_markets = subst (λ n. n ≤ 32) (sym counted) p.few_markets;
+      markets = all_joined joined IsMarket IsMarket (λ m xs h. record { params = h.params; price = h.price }) s.markets s.samples p.markets;
+      vote_count = p.vote_count ∙ sym counted;
+      votes = p.votes;
+      sample_count = p.sample_count ∙ sym counted;
+    })
+
+-- the tick of samples has not come
 pub take_samples-early : (time : ℕ) (s : State) → nat_lt time s.clock.sample_next ≡ true → take_samples time s ≡ s
 unfolding take_samples
 take_samples-early time s e = rw e refl
 
--- each market's index stays
-indices_stay : (ms : List MarketInfo) (samples : List (List ℤ)) → All (λ m. unsigned_abs m.index ≤ most_index) ms → All AreZeros samples → length samples ≡ length ms
-    → map (λ e. record e.0 { index = index_after e.0 (rate e.1 e.0.params.rate_cap) }) (zip ms samples) ≡ ms
-indices_stay [] samples h z e = refl
-indices_stay (m ∷ ms) [] h z e = absurd (omega (arith, e))
-indices_stay (m ∷ ms) (xs ∷ xss) h z e =
-    let small = All-head (λ (m : MarketInfo). unsigned_abs m.index ≤ most_index) m ms h in
-    let none : index_after m (rate xs m.params.rate_cap) ≡ m.index = ap (index_after m) (rate-zeros xs m.params.rate_cap (All-head AreZeros xs xss z)) ∙ index_after-zero m small in
-    ap (λ (i : ℤ). record m { index = i } ∷ map (λ e. record e.0 { index = index_after e.0 (rate e.1 e.0.params.rate_cap) }) (zip ms xss)) none
-    ∙ ap (λ xs. m ∷ xs) (indices_stay ms xss (All-tail (λ (m : MarketInfo). unsigned_abs m.index ≤ most_index) m ms h) (All-tail AreZeros xs xss z) (omega (arith, e)))
+take_samples-due : (time : ℕ) (s : State) → nat_lt time s.clock.sample_next ≡ false
+    → take_samples time s ≡ with_clock (no_votes (with_medians s)) (record s.clock { sample_next = next_tick s.clock.sample_next time sample_epoch })
+unfolding take_samples
+take_samples-due time s e = rw e refl
 
--- the funding is taken
-pub take_funding-quiet : (time : ℕ) (s : State) → IsEnding s → nat_lt time s.clock.funding_next ≡ false
-    → take_funding time s ≡ record s { samples = map no_samples s.samples; clock = record s.clock { funding_next = next_tick s.clock.funding_next time funding_epoch } }
-unfolding take_funding
-take_funding-quiet time s p e =
-    rw e (λ i. record s {
-      markets = indices_stay s.markets s.samples p.indices p.quiet.samples p.sample_count i;
-      samples = map no_samples s.samples;
-      clock = record s.clock { funding_next = next_tick s.clock.funding_next time funding_epoch };
-    })
+-- the samples are taken
+pub samples_taken : (s t u v : State) (clock : Clock) (time n : ℕ) → s.clock.sample_next ≤ time → t ≡ with_medians s → u ≡ no_votes t → n ≡ next_tick s.clock.sample_next time sample_epoch
+    → clock ≡ record s.clock { sample_next = n } → v ≡ with_clock u clock → v ≡ take_samples time s
+samples_taken s t u v clock time n h e f m c w =
+    w ∙ ap (λ (x : State). with_clock x clock) (f ∙ ap no_votes e) ∙ ap (with_clock (no_votes (with_medians s))) (c ∙ ap (λ (k : ℕ). record s.clock { sample_next = k }) m)
+    ∙ sym (take_samples-due time s (le-ltb time s.clock.sample_next h))
 
+-- the tick of funding has not come
 pub take_funding-early : (time : ℕ) (s : State) → nat_lt time s.clock.funding_next ≡ true → take_funding time s ≡ s
 unfolding take_funding
 take_funding-early time s e = rw e refl
 
--- the first lists changed
-pub first_changed : {X : Type 0} → (X → X) → ℕ → List X → List X
-first_changed f zero xs = xs
-first_changed f (suc k) [] = []
-first_changed f (suc k) (x ∷ xs) = f x ∷ first_changed f k xs
+take_funding-due : (time : ℕ) (s : State) → nat_lt time s.clock.funding_next ≡ false
+    → take_funding time s ≡ with_clock (no_samples (with_steps s)) (record s.clock { funding_next = next_tick s.clock.funding_next time funding_epoch })
+unfolding take_funding
+take_funding-due time s e = rw e refl
 
-module _ {X : Type 0} (f : X → X) where
-  -- the next one is as it was
-  pub next_unchanged : (k : ℕ) (xs : List X) → slice_get (first_changed f k xs) k ≡ slice_get xs k
-  unfolding first_changed
-  next_unchanged zero xs = refl
-  next_unchanged (suc k) [] = refl
-  next_unchanged (suc k) (x ∷ xs) = next_unchanged k xs
+-- the funding is taken
+pub funding_taken : (s t u v : State) (clock : Clock) (time n : ℕ) → s.clock.funding_next ≤ time → t ≡ with_steps s → u ≡ no_samples t → n ≡ next_tick s.clock.funding_next time funding_epoch
+    → clock ≡ record s.clock { funding_next = n } → v ≡ with_clock u clock → v ≡ take_funding time s
+funding_taken s t u v clock time n h e f m c w =
+    w ∙ ap (λ (x : State). with_clock x clock) (f ∙ ap no_samples e) ∙ ap (with_clock (no_samples (with_steps s))) (c ∙ ap (λ (k : ℕ). record s.clock { funding_next = k }) m)
+    ∙ sym (take_funding-due time s (le-ltb time s.clock.funding_next h))
 
-  one_more_changed : (k : ℕ) (xs : List X) (x : X) → slice_get xs k ≡ Some x → slice_set (first_changed f k xs) k (f x) ≡ first_changed f (suc k) xs
-  unfolding first_changed
-  one_more_changed zero [] x e = absurd (cc)
-  one_more_changed zero (y ∷ xs) x e = ap (λ z. f z ∷ xs) (cc)
-  one_more_changed (suc k) [] x e = absurd (cc)
-  one_more_changed (suc k) (y ∷ xs) x e = ap (λ zs. f y ∷ zs) (one_more_changed k xs x e)
+one_more_fits : (xs : List ℤ) (x : ℤ) → length xs < 60 → length (xs ++ x ∷ []) ≤ 60
+one_more_fits xs x h = omega (arith, h, length-append xs (x ∷ []))
 
-  pub all_changed : (k : ℕ) (xs : List X) → length xs ≤ k → first_changed f k xs ≡ map f xs
-  unfolding first_changed
-  all_changed zero [] h = refl
-  all_changed zero (x ∷ xs) h = absurd (omega (arith, h))
-  all_changed (suc k) [] h = refl
-  all_changed (suc k) (x ∷ xs) h = ap (λ zs. f x ∷ zs) (all_changed k xs (omega (arith, h)))
+less_fits : (xss : List (List ℤ)) → HasPlace xss → HasFew xss
+less_fits xss h n d lt = let k = h n d lt in omega (arith, k)
 
-  pub none_changed : (xs : List X) → first_changed f 0 xs ≡ xs
-  unfolding first_changed
-  none_changed xs = refl
+-- a state at the end of a block, after its samples
+abbrev IsSampled : State → Type 0
+IsSampled s = IsEnding s × HasFew s.samples
 
-all_mapped : {X Y : Type 0} (P : X → Type 0) (Q : Y → Type 0) (f : X → Y) (xs : List X) → ((x : X) → P x → Q (f x)) → All P xs → All Q (map f xs)
-all_mapped P Q f [] g h = All-nil Q
-all_mapped P Q f (x ∷ xs) g h = All-cons Q (f x) (map f xs) (g x (All-head P x xs h)) (all_mapped P Q f xs g (All-tail P x xs h))
+sampled : (time : ℕ) (s : State) → IsEnding s → HasPlace s.samples → IsSampled (take_samples time s)
+unfolding take_samples
+sampled time s p room =
+    let joined : List ℤ × List ℤ → List ℤ = λ (z : List ℤ × List ℤ). z.0 ++ median z.1 s.genesis.params.min_votes ∷ [] in
+    cond_both (nat_lt time s.clock.sample_next) s (with_clock (no_votes (with_medians s)) (record s.clock { sample_next = next_tick s.clock.sample_next time sample_epoch })) IsSampled
+    (λ _. (p, less_fits s.samples room))
+    (λ _. (
+      record {
+        genesis = p.genesis;
+        params = p.params;
+        market_count = p.market_count;
+        few_markets = p.few_markets;
+        markets = p.markets;
+        vote_count = length-map s.votes no_list ∙ p.vote_count;
+        votes = few_none s.votes;
+        sample_count = length_joined joined s.samples s.votes (p.vote_count ∙ sym p.sample_count) ∙ p.sample_count;
+      },
+      all_joined joined (λ (xs : List ℤ). length xs < 60) (λ (xs : List ℤ). length xs ≤ 60) (λ xs ys h. one_more_fits xs (median ys s.genesis.params.min_votes) h) s.samples s.votes room,
+    ))
 
-zeros_more : (xs : List ℤ) → AreZeros xs → AreZeros (one_more_zero xs)
-zeros_more xs h = All-append (λ z. z ≡ pos 0) xs (pos 0 ∷ []) h (All-cons (λ z. z ≡ pos 0) (pos 0) [] refl (All-nil (λ z. z ≡ pos 0)))
+-- what is dropped and the clock leave a state at the end of a block one
+pub IsEnding-moved : (s t u v : State) (height time : ℕ) → IsEnding s → HasPlace s.samples → t ≡ ended time s → u ≡ pruned height t → v ≡ moved height time u → IsEnding v × HasPlace v.samples
+IsEnding-moved s t u v height time p room e f g =
+    subst (λ (x : State). IsEnding x × HasPlace x.samples) (sym (g ∙ ap (moved height time) (f ∙ ap (pruned height) e))) (
+      record {
+        genesis = p.genesis;
+        params = p.params;
+        market_count = p.market_count;
+        few_markets = p.few_markets;
+        markets = p.markets;
+        vote_count = p.vote_count;
+        votes = p.votes;
+        sample_count = p.sample_count;
+      },
+      room,
+    )
 
-zeros_none : (xs : List ℤ) → AreZeros xs → AreZeros (no_samples xs)
-zeros_none xs h = All-nil (λ z. z ≡ pos 0)
+-- and the samples do
+IsEnding-sampled : (s t : State) (time : ℕ) → IsEnding s → HasPlace s.samples → t ≡ take_samples time s → IsEnding t × HasFew t.samples
+IsEnding-sampled s t time p room e = subst IsSampled (sym e) (sampled time s p room)
 
--- another clock
-pub IsEnding-clock : (s : State) (c : Clock) → IsEnding s → IsEnding (record s { clock = c })
-IsEnding-clock s c p = record {
-  quiet = record { votes = p.quiet.votes; samples = p.quiet.samples; stateful = p.quiet.stateful };
-  vote_count = p.vote_count;
-  sample_count = p.sample_count;
-  market_count = p.market_count;
-  few_markets = p.few_markets;
-  indices = p.indices;
-}
-
--- fewer records
-pub IsEnding-pruned : (s : State) (height : ℕ) → IsEnding s → IsEnding (pruned height s)
-IsEnding-pruned s height p = record {
-  quiet = record { votes = p.quiet.votes; samples = p.quiet.samples; stateful = p.quiet.stateful };
-  vote_count = p.vote_count;
-  sample_count = p.sample_count;
-  market_count = p.market_count;
-  few_markets = p.few_markets;
-  indices = p.indices;
-}
-
--- other samples, which are zeros too
-IsEnding-each : (s : State) (f : List ℤ → List ℤ) → ((xs : List ℤ) → AreZeros xs → AreZeros (f xs)) → IsEnding s → IsEnding (with_each s f)
-IsEnding-each s f g p = record {
-  quiet = record { votes = p.quiet.votes; samples = all_mapped AreZeros AreZeros f s.samples g p.quiet.samples; stateful = p.quiet.stateful };
-  vote_count = p.vote_count ∙ sym (length-map s.samples f);
-  sample_count = length-map s.samples f ∙ p.sample_count;
-  market_count = p.market_count;
-  few_markets = p.few_markets;
-  indices = p.indices;
-}
-
-samples_tested : (time : ℕ) (s : State) (early : Bool) → nat_lt time s.clock.sample_next ≡ early → IsEnding s → IsEnding (take_samples time s)
-samples_tested time s true e p = subst IsEnding (sym (take_samples-early time s e)) p
-samples_tested time s false e p = subst IsEnding (sym (take_samples-quiet time s p e)) (IsEnding-clock (with_each s one_more_zero) _ (IsEnding-each s one_more_zero zeros_more p))
-
-pub IsEnding-take_samples : (time : ℕ) (s : State) → IsEnding s → IsEnding (take_samples time s)
-IsEnding-take_samples time s p = samples_tested time s (nat_lt time s.clock.sample_next) refl p
-
-funding_tested : (time : ℕ) (s : State) (early : Bool) → nat_lt time s.clock.funding_next ≡ early → IsEnding s → IsEnding (take_funding time s)
-funding_tested time s true e p = subst IsEnding (sym (take_funding-early time s e)) p
-funding_tested time s false e p = subst IsEnding (sym (take_funding-quiet time s p e)) (IsEnding-clock (with_each s no_samples) _ (IsEnding-each s no_samples zeros_none p))
-
-IsEnding-take_funding : (time : ℕ) (s : State) → IsEnding s → IsEnding (take_funding time s)
-IsEnding-take_funding time s p = funding_tested time s (nat_lt time s.clock.funding_next) refl p
-
--- the end of a block on such a state
-pub end_step-quiet : (s : State) (height time : ℕ) → IsEnding s → end_step s height time ≡ take_funding time (take_samples time (moved height time (pruned height s)))
-unfolding end_step
-end_step-quiet s height time p = ap (λ (t : State). take_funding time (take_samples time (moved height time t))) (drop_ended-quiet height time s p.quiet.stateful)
-
--- leaves one
-pub IsEnding-end_step : (s : State) (height time : ℕ) → IsEnding s → IsEnding (end_step s height time)
-IsEnding-end_step s height time p =
-    subst IsEnding (sym (end_step-quiet s height time p))
-    (IsEnding-take_funding time _ (IsEnding-take_samples time _ (IsEnding-clock (pruned height s) _ (IsEnding-pruned s height p))))
-
--- a market that is not reached yet has what it had
-next_list : (f : List ℤ → List ℤ) (s t : State) (k : ℕ) (items : List ℤ) → items ≡ of_number t.samples k → t ≡ record s { samples = first_changed f k s.samples } → items ≡ slice_index_or s.samples k []
-next_list f s t k items i e =
-    i ∙ ap (λ (x : State). of_number x.samples k) e ∙ ap (λ o. unwrap_or o []) (next_unchanged f k s.samples) ∙ unwrap_or-slice_get s.samples k []
-
--- a market that is not reached yet has room
-pub place_at : (f : List ℤ → List ℤ) (s t : State) (k : ℕ) (items : List ℤ) → items ≡ of_number t.samples k → t ≡ record s { samples = first_changed f k s.samples } → HasPlace s.samples → k < length s.samples → length items < 60
-place_at f s t k items i e h lt = subst (λ xs. length xs < 60) (sym (next_list f s t k items i e)) (h k [] lt)
-
--- one more market is changed
-pub list_put : (f : List ℤ → List ℤ) (s t u : State) (k : ℕ) (v : List ℤ) → t ≡ record s { samples = first_changed f k s.samples } → u ≡ with_samples t k v → v ≡ f (slice_index_or s.samples k []) → k < length s.samples
-    → u ≡ record s { samples = first_changed f (k + 1) s.samples }
-list_put f s t u k v e w i lt =
-    w ∙ ap (λ (x : State). with_samples x k v) e ∙ ap (λ xs. record s { samples = slice_set (first_changed f k s.samples) k xs }) i
-    ∙ ap (λ xs. record s { samples = xs }) (rw add-one (one_more_changed f k s.samples (slice_index_or s.samples k []) (slice_get-get_or s.samples k [] lt)))
-
--- one more market has a zero more
-pub zero_put : (s t u : State) (k : ℕ) (items v : List ℤ) → items ≡ of_number t.samples k → t ≡ record s { samples = first_changed one_more_zero k s.samples } → u ≡ with_samples t k v → v ≡ items ++ pos 0 ∷ [] → k < length s.samples
-    → u ≡ record s { samples = first_changed one_more_zero (k + 1) s.samples }
-zero_put s t u k items v i e w z lt = list_put one_more_zero s t u k v e w (z ∙ ap one_more_zero (next_list one_more_zero s t k items i e)) lt
-
--- no market yet
-pub none_put : (f : List ℤ → List ℤ) (s : State) → s ≡ record s { samples = first_changed f 0 s.samples }
-none_put f s = ap (λ (xs : List (List ℤ)). record s { samples = xs }) (sym (none_changed f s.samples))
-
--- all markets
-pub all_put : (f : List ℤ → List ℤ) (s t : State) (k : ℕ) → t ≡ record s { samples = first_changed f k s.samples } → length s.samples ≤ k → t ≡ with_each s f
-all_put f s t k e h = e ∙ ap (λ (xs : List (List ℤ)). record s { samples = xs }) (all_changed f k s.samples h)
-
--- the samples were taken
-pub samples_taken : (s t u : State) (clock : Clock) (time n : ℕ) → IsEnding s → s.clock.sample_next ≤ time → t ≡ with_each s one_more_zero → n ≡ next_tick s.clock.sample_next time 60 → clock ≡ record s.clock { sample_next = n } → u ≡ with_clock t clock
-    → u ≡ take_samples time s
-samples_taken s t u clock time n p h e m c w =
-    w ∙ ap (λ (x : State). with_clock x clock) e ∙ ap (with_clock (with_each s one_more_zero)) (c ∙ ap (λ (k : ℕ). record s.clock { sample_next = k }) m) ∙ sym (take_samples-quiet time s p (le-ltb time s.clock.sample_next h))
-
--- the funding was taken
-pub funding_taken : (s t u : State) (clock : Clock) (time n : ℕ) → IsEnding s → s.clock.funding_next ≤ time → t ≡ with_each s no_samples → n ≡ next_tick s.clock.funding_next time 3600 → clock ≡ record s.clock { funding_next = n } → u ≡ with_clock t clock
-    → u ≡ take_funding time s
-funding_taken s t u clock time n p h e m c w =
-    w ∙ ap (λ (x : State). with_clock x clock) e ∙ ap (with_clock (with_each s no_samples)) (c ∙ ap (λ (k : ℕ). record s.clock { funding_next = k }) m) ∙ sym (take_funding-quiet time s p (le-ltb time s.clock.funding_next h))
-
--- the records are dropped, and the clock has moved
-pub moved_on : (s t u : State) (height time : ℕ) → IsEnding s → HasPlace s.samples → t ≡ pruned height s → u ≡ moved height time t → IsEnding u × HasPlace u.samples
-moved_on s t u height time p h e w =
-    subst (λ (x : State). IsEnding x × HasPlace x.samples) (sym (w ∙ ap (moved height time) e)) (IsEnding-clock (pruned height s) _ (IsEnding-pruned s height p), h)
-
--- and the samples were taken
-pub IsEnding-sampled : (u v : State) (time : ℕ) → IsEnding u → v ≡ take_samples time u → IsEnding v
-IsEnding-sampled u v time p e = subst IsEnding (sym e) (IsEnding-take_samples time u p)
-
--- the block has ended
-pub block_ended : (s t u v w : State) (height time : ℕ) → IsEnding s → t ≡ pruned height s → u ≡ moved height time t → v ≡ take_samples time u → w ≡ take_funding time v → w ≡ end_step s height time
-block_ended s t u v w height time p e m x y =
-    y ∙ ap (take_funding time) (x ∙ ap (take_samples time) (m ∙ ap (moved height time) e)) ∙ sym (end_step-quiet s height time p)
+-- so do all parts before the tick of funding
+pub IsEnding-behind : (s t u v w : State) (height time : ℕ) → IsEnding s → HasPlace s.samples → t ≡ ended time s → u ≡ pruned height t → v ≡ moved height time u → w ≡ take_samples time v → IsEnding w × HasFew w.samples
+IsEnding-behind s t u v w height time p room e f g h =
+    let m = IsEnding-moved s t u v height time p room e f g in
+    IsEnding-sampled v w time m.0 m.1 h

@@ -5,7 +5,6 @@ ghost use Rattle.dx_spec.specs.Codes.{header_part};
 ghost use Rattle.dx_spec.specs.Blocks.{bad, check_header as header_check, block_step};
 ghost use Rattle.dx_ledger.specs.Marks.{KeepsMarks};
 ghost use Rattle.dx_operations.specs.Faults.{Refuses};
-ghost use Rattle.dx_rules.specs.Built.{IsBuilt};
 ghost use Rattle.dx_rules.specs.Refusals.{code_of};
 ghost use Rattle.dx_rules.specs.Settled.{IsSettled};
 
@@ -14,6 +13,7 @@ use crate::header::check_header;
 use crate::messages::messages;
 use crate::prices::set_prices;
 use crate::refusals::Refusal;
+use crate::votes::set_votes;
 use dx_ledger::Branch;
 use dx_operations::{BlockFault, apply_operations};
 use dx_types::{Bad, Block, List};
@@ -40,7 +40,6 @@ fn carry_out_parts<L: Branch>(
     block: &Block,
 ) -> Result<List<u32>, BlockFault>
     requires settled { IsSettled (L.content l.old) }
-    requires built { IsBuilt block.now }
     requires header { header_check (L.content l.old) block.now ≡ Ok tt }
     ensures ok { IfOk result (λ results. block_step (L.content l.old) block.now ≡ Ok (L.content l.new, results)) }
     ensures bad { IfErr result (λ fault. Refuses fault (block_step (L.content l.old) block.now)) }
@@ -50,6 +49,7 @@ fn carry_out_parts<L: Branch>(
 {
     apply_operations(alloc, l, block.height, block.ops.as_slice())?;
     let results = messages(alloc, l, block.time, block.msgs.as_slice())?;
+    set_votes(l, block.votes.as_slice())?;
     set_prices(l, block.prices.as_slice())?;
     end_block(l, block.height, block.time)?;
     Ok(results)
@@ -58,7 +58,6 @@ fn carry_out_parts<L: Branch>(
 /// Carries a block out. After a fault nothing is promised of the content.
 fn carry_out<L: Branch>(alloc: Global, l: &mut L, block: &Block) -> Result<List<u32>, BlockFault>
     requires settled { IsSettled (L.content l.old) }
-    requires built { IsBuilt block.now }
     ensures ok { IfOk result (λ results. block_step (L.content l.old) block.now ≡ Ok (L.content l.new, results)) }
     ensures bad { IfErr result (λ fault. Refuses fault (block_step (L.content l.old) block.now)) }
     ensures settled { OnOk result (IsSettled (L.content l.new)) }
@@ -74,7 +73,7 @@ fn carry_out<L: Branch>(alloc: Global, l: &mut L, block: &Block) -> Result<List<
 /// Applies a block, and answers the results of its messages: 0 where a message was carried out, or the
 /// number of its refusal.
 ///
-/// `Bad` with the first bad part: of the header, an operation or a price ("Block" in docs/RULES.md).
+/// `Bad` with the first bad part: of the header, an operation, a vote or a price ("Block" in docs/RULES.md).
 /// `NoMemory` where there is none. The content is as before at both.
 pub fn apply_block<L: Branch>(
     alloc: Global,
@@ -82,7 +81,6 @@ pub fn apply_block<L: Branch>(
     block: &Block,
 ) -> Result<List<u32>, BlockFault>
     requires settled { IsSettled (L.content l.old) }
-    requires built { IsBuilt block.now }
     ensures ok { IfOk result (λ results. block_step (L.content l.old) block.now ≡ Ok (L.content l.new, results)) }
     ensures bad { IfErr result (λ fault. Refuses fault (block_step (L.content l.old) block.now)) }
     ensures settled { OnOk result (IsSettled (L.content l.new)) }
@@ -102,7 +100,6 @@ pub fn apply_block<L: Branch>(
 /// at each end.
 pub fn check_block<L: Branch>(alloc: Global, l: &mut L, block: &Block) -> Result<(), BlockFault>
     requires settled { IsSettled (L.content l.old) }
-    requires built { IsBuilt block.now }
     ensures ok { OnOk result (IsOk (block_step (L.content l.old) block.now)) }
     ensures bad { IfErr result (λ fault. Refuses fault (block_step (L.content l.old) block.now)) }
     ensures same { L.content l.new ≡ L.content l.old }

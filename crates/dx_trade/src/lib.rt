@@ -4,7 +4,8 @@
 //! It stands on `dx_accounts` for shifts of accounts, on `dx_fees` for charges and the fee fund, on
 //! `dx_orders` for the test of an amount, on `dx_ledger` for the state, and on `dx_spec`, whose `Accounts`
 //! and `Fills` define each stage. [`trade`] changes one account's size and quote and with them the open
-//! interest, [`fill_side`] is a trade of an order's account with its fee and its record, [`market_for`],
+//! interest, [`fill_side`] is a trade of an order's account with its fee and its record, [`quote_of`] is what
+//! an amount costs, [`settle`] settles an account and [`bears`] asks whether it bears a change, [`market_for`],
 //! [`overfills`] and [`keeps_bounds`] are tests, and [`Refusal`] names every cause with its number.
 //!
 //! Each call is equal to its definition. After a refusal of a call that writes nothing is promised of the
@@ -14,11 +15,15 @@
 #![tactic(auto)]
 
 mod checks;
+mod pricing;
 mod refusals;
+mod settling;
 mod sides;
 mod trading;
 
 pub use checks::{filled_of, is_bounded_worth, keeps_bounds, market_for, overfills};
+pub use pricing::quote_of;
 pub use refusals::Refusal;
-pub use sides::fill_side;
-pub use trading::{size_in, trade};
+pub use settling::{bears, settle};
+pub use sides::{fill_side, gain, size_change};
+pub use trading::{size_of, trade};

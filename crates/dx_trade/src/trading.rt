@@ -1,41 +1,27 @@
 //! A trade of one account, and the open interest that it moves.
 
-ghost use Rattle.std.specs.Prelude.{◌≡◌, ◌<◌, ◌+◌, ◌-◌, ◌^◌, ◌==◌, pos, unsigned_abs, find, IsTrue, IfErr, OnOk, IfSome, slice_get, ok_or};
-ghost use Rattle.std.specs.Option.{option_map_or};
+ghost use Rattle.std.specs.Prelude.{◌≡◌, ◌<◌, ◌+◌, ◌-◌, ◌^◌, unsigned_abs, IsTrue, IfErr, OnOk, IfSome, slice_get, ok_or};
 ghost use Rattle.dx_spec.specs.Codes.{bound};
-ghost use Rattle.dx_spec.specs.State.{is_kept, size_in as size_within};
+ghost use Rattle.dx_spec.specs.State.{is_kept, account_of as account_in, size_in as size_within};
 ghost use Rattle.dx_spec.specs.Margin.{of_market};
 ghost use Rattle.dx_spec.specs.Accounts.{long_part as long_part_of, shift as shift_in, trade as trade_in};
 ghost use Rattle.dx_ledger.specs.Marks.{KeepsMarks};
 ghost use Rattle.dx_ledger.specs.Writes.{with_account};
-ghost use Rattle.dx_trade.specs.Refusals.{IsFaultOf};
+ghost use Rattle.dx_accounts.specs.Faults.{IsFaultOf};
 ghost use Rattle.dx_trade.specs.Stages.{with_size, with_interest, with_trade};
 ghost use Rattle.dx_trade.specs.Conditions.{CanTrade};
 
 use crate::refusals::Refusal;
 use dx_accounts::{account_of, shift};
 use dx_ledger::{Ledger, LedgerFault, OpFault};
-use dx_types::{Account, MarketInfo, NoMemory, Position, SubaccountId};
+use dx_types::{Account, MarketInfo, NoMemory, SubaccountId};
 
-/// The size of the position in a market, 0 where there is none: base quantums.
-fn size_among(ps: &[Position], market: u32) -> i64
-    ensures { result ≡ option_map_or (λ p. p.size) (find (λ p. p.market == market) ps.now) (pos 0) }
+/// The size of the position in a market that an account of a ledger has, 0 where there is none: base
+/// quantums, negative where it is short.
+pub fn size_of<L: Ledger>(l: &L, who: SubaccountId, market: u32) -> i64
+    ensures { result ≡ size_within (account_in (L.content l.now) who) market }
 {
-    for p in ps {
-        if p.market == market {
-            return p.size;
-        }
-    }
-    0
-}
-
-/// The size of an account's position in a market, 0 where there is none: base quantums, negative where it is
-/// short.
-pub fn size_in(a: &Account, market: u32) -> i64
-    ensures { result ≡ size_within a.now market }
-{
-    let positions = a.positions.as_slice();
-    size_among(positions, market)
+    account_of(l, who).size_in(market)
 }
 
 /// The part of a size that counts as open interest.
@@ -93,7 +79,8 @@ fn keep<L: Ledger>(l: &mut L, who: SubaccountId, a: &Account) -> Result<(), NoMe
 /// Moves the open interest of a market by a size that goes from the first to the second.
 #[tactic(auto, using(crate::proofs::Interests::moved_by, crate::proofs::Interests::moved_by_none))]
 fn move_interest<L: Ledger>(l: &mut L, market: u32, before: i64, after: i64) -> Result<(), NoMemory>
-    requires params { IfSome (slice_get (L.content l.old).markets market) (λ m. slice_get (L.content l.old).genesis.params.markets market ≡ Some m.params) }
+    requires params { IfSome (slice_get (L.content l.old).markets market) (λ m. slice_get
+        (L.content l.old).genesis.params.markets market ≡ Some m.params) }
     requires room { IfSome (slice_get (L.content l.old).markets market) (λ m. m.oi < 2 ^ 60) }
     requires after { unsigned_abs after < 2 ^ 48 }
     ensures ok { OnOk result (L.content l.new ≡ with_interest (L.content l.old) market before after) }
@@ -128,7 +115,7 @@ fn write_trade<L: Ledger>(
     ensures beside { L.beside l.new ≡ L.beside l.old }
 {
     keep(l, who, after)?;
-    move_interest(l, market, size_in(before, market), size_in(after, market))
+    move_interest(l, market, before.size_in(market), after.size_in(market))
 }
 
 /// Changes a kept account's size in a market by base quantums and its quote by quote quantums, and with them

@@ -4,7 +4,7 @@ use Rattle.dx_maps.specs.Tables.{map_of}
 use Rattle.dx_spec.specs.Step.{try_each}
 use Rattle.dx_spec.specs.Operations.{match_fill}
 use Rattle.dx_ledger.specs.Marks.{KeepsMarks}
-use Rattle.dx_fill.specs.Conditions.{IsTradable}
+use Rattle.dx_trade.specs.Conditions.{IsTradable}
 use Rattle.dx_operations.specs.Midway.{IsMidway}
 use Rattle.dx_operations.proofs.matching.fill_all.Given as goal
 
