@@ -15,6 +15,7 @@ use Rattle.dx_book.specs.declared.key.OrderKey.{OrderKey}
 use Rattle.dx_book.proofs.Ids.{one_per_id-append, resting-without}
 use Rattle.dx_book.proofs.Sides.{best_rests, next_rests, pick_is_next}
 use Rattle.dx_book.proofs.Places.{get_at, some_within}
+use Rattle.dx_book.proofs.Walks.{filter_shorter}
 use Rattle.dx_node_spec.proofs.Ids.{one_per_id-filter}
 
 -- an order is the one of its id
@@ -108,14 +109,6 @@ unfolding named
 keys_add b d o e key s =
     ap (λ l. resting l key.id) e ∙ find-append (has_id key.id) b.orders (o ∷ []) ∙ or_first (resting b.orders key.id) (resting (o ∷ []) key.id) s
 
-filter_shorter : (test : Order → Bool) (xs : List Order) → length (filter test xs) ≤ length xs
-filter_shorter test [] = omega arith
-filter_shorter test (x ∷ xs) = go (test x) (filter_shorter test xs)
-  where
-    go : (b : Bool) → length (filter test xs) ≤ length xs → length (cond b (x ∷ filter test xs) (filter test xs)) ≤ length (x ∷ xs)
-    go true h = omega arith
-    go false h = omega arith
-
 pub kept_filter : (test : Order → Bool) (xs ys : List Order) (spare cap same : ℕ) → IsKept xs spare cap → ys ≡ filter test xs → same ≡ cap → IsKept ys spare same
 kept_filter test xs ys spare cap same k e h =
     let shorter : length ys ≤ length xs = subst (λ l. length l ≤ length xs) (sym e) (filter_shorter test xs) in
@@ -130,3 +123,24 @@ keys_remove b d id e key = go (resting b.orders key.id) refl
     go : (r : Option Order) → resting b.orders key.id ≡ r → IfSome r (λ o. is_same_id o.id id ≡ false → resting d.orders key.id ≡ Some o)
     go None f = tt
     go (Some o) f = λ n. ap (λ l. resting l key.id) e ∙ resting-without b.orders id key.id o f n
+
+-- an order that passes stays the one of its id
+resting-passes : (test : Order → Bool) (xs : List Order) (id : OrderId) (o : Order) → resting xs id ≡ Some o → test o ≡ true → resting (filter test xs) id ≡ Some o
+resting-passes test [] id o f n = absurd (cc)
+resting-passes test (x ∷ xs) id o f n = go (is_same_id x.id id) (test x) refl refl f (λ g. resting-passes test xs id o g n)
+  where
+    go : (a b : Bool) → is_same_id x.id id ≡ a → test x ≡ b → cond a (Some x) (resting xs id) ≡ Some o
+        → (resting xs id ≡ Some o → resting (filter test xs) id ≡ Some o)
+        → resting (cond b (x ∷ filter test xs) (filter test xs)) id ≡ Some o
+    go true true e d g more = rw e g
+    go true false e d g more = let same : x ≡ o = cc in let m : test x ≡ true = ap test same ∙ n in absurd (cc)
+    go false true e d g more = rw e (more g)
+    go false false e d g more = more g
+
+pub keys_filter : (b d : Held) (test : Order → Bool) → d.orders ≡ filter test b.orders → (key : OrderKey) → IfSome (named b key) (λ o. test o ≡ true → named d key ≡ Some o)
+unfolding named
+keys_filter b d test e key = go (resting b.orders key.id) refl
+  where
+    go : (r : Option Order) → resting b.orders key.id ≡ r → IfSome r (λ o. test o ≡ true → resting d.orders key.id ≡ Some o)
+    go None f = tt
+    go (Some o) f = λ n. ap (λ l. resting l key.id) e ∙ resting-passes test b.orders key.id o f n

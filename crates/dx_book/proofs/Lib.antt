@@ -4,3 +4,4 @@ pub mod Sides
 mod Ids
 mod Places
 mod Keys
+pub mod Walks

@@ -16,7 +16,7 @@ use Rattle.dx_book.proofs.Ids.{own_id, around, no_other}
 use Rattle.dx_spec.proofs.Each.{all_weaker, all_filter, all_pass, all_sorted}
 use Rattle.dx_node_spec.proofs.Ids.{all_resting}
 
-before_order : (buy : Bool) → IsStrictWeakOrder (before buy)
+pub before_order : (buy : Bool) → IsStrictWeakOrder (before buy)
 before_order true = IsStrictWeakOrder-flip _ (IsStrictWeakOrder-by_number (λ o. o.subticks))
 before_order false = IsStrictWeakOrder-by_number (λ o. o.subticks)
 

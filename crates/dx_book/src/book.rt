@@ -1,5 +1,5 @@
 ghost use Rattle.std.specs.Prelude.{◌≡◌, ◌↔◌, ◌+◌, ◌≤◌, [], ◌∷◌, ◌++◌, None, IsSome, IfSome, IfOk, OnOk, length};
-ghost use Rattle.std.specs.Prelude.{false};
+ghost use Rattle.std.specs.Prelude.{true, false, filter};
 ghost use Rattle.dx_spec.specs.Orders.{is_same_id as is_one_id};
 ghost use Rattle.dx_node_spec.specs.Book.{resting, without, best, HasOnePerId};
 ghost use Rattle.dx_book.specs.Ways.{next_of, of_account as earliest_of, after_of_account as earliest_after, expired as first_expired};
@@ -8,7 +8,7 @@ ghost use Rattle.dx_book.specs.declared.key.OrderKey.{OrderKey as Key};
 
 use crate::best::{best_behind, best_on};
 use crate::fault::BookFault;
-use crate::filters::{BelowHeight, OfAccount, OfId, PastTime};
+use crate::filters::{BelowHeight, OfAccount, OfId, OrderTest, PastTime};
 use crate::key::{OrderKey, key_of};
 use crate::search::{behind, first_of, id_of, place_of};
 use dx_orders::is_same_id;
@@ -152,11 +152,23 @@ impl Book {
         ensures removed { result ≡ resting self.old.orders id.now }
         ensures orders { self.new.orders ≡ without self.old.orders id.now }
         ensures spare { self.old.spare ≤ self.new.spare }
-        ensures keys { (key : Key) → IfSome (named self.old key) (λ o. is_one_id o.id id.now ≡ false → named self.new key ≡ Some o) }
+        ensures keys { (key : Key) → IfSome (named self.old key)
+            (λ o. is_one_id o.id id.now ≡ false → named self.new key ≡ Some o) }
     {
         let removed = first_of(self.orders.as_slice(), &OfId { id: *id });
         self.orders.retain(|order| !is_same_id(order.id, *id));
         removed
+    }
+
+    /// Takes out the orders that do not pass a test. The others keep their order and their keys, and no
+    /// room is lost. It takes no memory.
+    pub fn retain<T: OrderTest>(&mut self, test: &T)
+        ensures orders { self.new.orders ≡ filter (T.passes test.now) self.old.orders }
+        ensures spare { self.old.spare ≤ self.new.spare }
+        ensures keys { (key : Key) → IfSome (named self.old key)
+            (λ o. T.passes test.now o ≡ true → named self.new key ≡ Some o) }
+    {
+        self.orders.retain(|order| test.passes(order));
     }
 
     /// The id of the earliest short-term order of an account. It takes no memory.

@@ -19,8 +19,8 @@ pub(crate) fn comes_before(buy: bool, o: &Order, p: &Order) -> bool
     }
 }
 
-/// A test of orders.
-pub(crate) trait OrderTest {
+/// A test of orders, for [`Book::retain`](crate::Book::retain).
+pub trait OrderTest {
     ghost use Rattle.std.specs.Prelude.{Bool};
     ghost use Rattle.dx_types.specs.declared.Order.{Order as AnyOrder};
 

@@ -21,4 +21,5 @@ mod tests;
 
 pub use book::Book;
 pub use fault::BookFault;
+pub use filters::OrderTest;
 pub use key::OrderKey;

@@ -1,5 +1,5 @@
 -- What a fill adds to the filled amounts.
-use Rattle.std.proofs.Common.{◌≡◌, ℕ, suc, ◌+◌, ◌^◌, ◌<◌, ◌≤◌, min, true, false, not, ◌==◌, ℤ, Some, List, [], ◌∷◌, length, Ok, IsTrue, refl, sym, ap, subst, ◌∙◌, arith, lit<}
+use Rattle.std.proofs.Common.{◌≡◌, ℕ, suc, ◌+◌, ◌^◌, ◌<◌, ◌≤◌, min, Bool, true, false, cond, not, ◌==◌, ℤ, Some, List, [], ◌∷◌, length, Ok, IsTrue, refl, sym, ap, subst, ◌∙◌, arith, lit<}
 use Prim.Native.Nat.{zero}
 use Rattle.std.specs.Prelude.{slice_get, IfSome}
 use Rattle.std.proofs.lemmas.Bool.{ltb-true}
@@ -27,7 +27,10 @@ use Rattle.dx_accounts.specs.Steady.{IsSteady}
 use Rattle.dx_fill.specs.Conditions.{IsTradable}
 use Rattle.dx_fill.proofs.Before.{tradable_fillable}
 use Rattle.dx_sound.proofs.Fills.{other_filled}
-use Rattle.dx_match.proofs.Trying.{at_true}
+
+at_true : {X : Type 0} (b : Bool) (x y : X) → b ≡ true → cond b x y ≡ x
+at_true true x y e = refl
+at_true false x y e = absurd (cc)
 
 accounts_apart : (taker maker : Order) → check_pair taker maker ≡ Ok tt → is_same_account taker.id.who maker.id.who ≡ false
 unfolding check_pair

@@ -18,7 +18,7 @@ use Rattle.dx_node_spec.specs.Taking.{Taken, fills_of, makers_in, closed, closed
 use Rattle.dx_match.specs.declared.taken.Filled.{Filled}
 use Rattle.dx_match.specs.declared.taken.Taking.{Taking}
 use Rattle.dx_match.specs.Seen.{group_of, seen}
-use Rattle.dx_match.specs.Stages.{group_ops}
+use Rattle.dx_match.specs.Stages.{with_group}
 
 -- an operation that places the id
 pub placed_here : (placed : Placed) (op : Op) (o : Order) (id : OrderId) → op ≡ Place o → is_same_id id o.id ≡ true → Some o ≡ get (with_placed placed op) id
@@ -79,44 +79,52 @@ place_held queue ops same o held e f g = λ rest.
     ap (λ b. ops ++ cond b (Place o ∷ places (insert (placed_by (queue ++ ops)) o.id o) rest) (places (placed_by (queue ++ ops)) rest))
     (sym (ap (λ b. is_short_term o.id && not b) placed ∙ not_and (is_short_term o.id)))
 
-some_closed : (queue both : List Op) (o : Order) (group : List Filled) → 0 < length group
-    → both ≡ places (placed_by queue) (makers_in (group_of group) ++ o ∷ []) → both ++ Match o.id (fills_of (group_of group)) ∷ [] ≡ group_ops queue o (group_of group)
-unfolding group_ops
-some_closed queue both o [] h e = absurd (omega arith)
-some_closed queue both o (x ∷ xs) h e = ap (λ l. l ++ Match o.id (fills_of (group_of (x ∷ xs))) ∷ []) e
-
 no_places : (placed : Placed) → places placed [] ≡ []
 unfolding places
 no_places placed = refl
 
--- the operations of a group with fills
-pub group_closed : (queue start placed both ops : List Op) (o : Order) (group first second : List Filled) (fills : List Fill) → 0 < length group
-    → start ≡ [] → first ≡ group → second ≡ group
-    → placed ++ places (placed_by (queue ++ placed)) (o ∷ []) ≡ start ++ places (placed_by (queue ++ start)) (makers_in (group_of first) ++ o ∷ [])
+-- the operations of a group with fills, behind others
+group_added : (queue ops placed both after : List Op) (o : Order) (group : List Filled) (fills : List Fill)
+    → placed ++ places (placed_by (queue ++ placed)) (o ∷ []) ≡ ops ++ places (placed_by (queue ++ ops)) (makers_in (group_of group) ++ o ∷ [])
     → both ++ places (placed_by (queue ++ both)) [] ≡ placed ++ places (placed_by (queue ++ placed)) (o ∷ [])
-    → fills ≡ fills_of (group_of second) → ops ≡ both ++ Match o.id fills ∷ []
-    → ops ≡ group_ops queue o (group_of group)
-group_closed queue start placed both ops o group first second fills h none one two e f i j =
-    let all_placed : both ≡ places (placed_by queue) (makers_in (group_of group) ++ o ∷ []) =
-    sym (append-nil both) ∙ ap (λ l. both ++ l) (sym (no_places (placed_by (queue ++ both)))) ∙ f ∙ e
-    ∙ ap (λ l. l ++ places (placed_by (queue ++ l)) (makers_in (group_of first) ++ o ∷ [])) none
-    ∙ ap (λ l. places (placed_by l) (makers_in (group_of first) ++ o ∷ [])) (append-nil queue)
-    ∙ ap (λ g. places (placed_by queue) (makers_in (group_of g) ++ o ∷ [])) one in
-    j ∙ ap (λ l. both ++ Match o.id l ∷ []) (i ∙ ap (λ g. fills_of (group_of g)) two) ∙ some_closed queue both o group h all_placed
+    → fills ≡ fills_of (group_of group) → after ≡ both ++ Match o.id fills ∷ [] → after ≡ with_group queue o ops (group_of group)
+unfolding with_group
+group_added queue ops placed both after o group fills e f i j =
+    let all_placed : both ≡ ops ++ places (placed_by (queue ++ ops)) (makers_in (group_of group) ++ o ∷ []) =
+    sym (append-nil both) ∙ ap (λ l. both ++ l) (sym (no_places (placed_by (queue ++ both)))) ∙ f ∙ e in
+    j ∙ ap (λ l. both ++ Match o.id l ∷ []) i ∙ ap (λ l. l ++ Match o.id (fills_of (group_of group)) ∷ []) all_placed
 
--- and of one without
-pub group_empty : (queue ops : List Op) (o : Order) (group : List Filled) → group ≡ [] → ops ≡ [] → ops ≡ group_ops queue o (group_of group)
-unfolding group_ops
-group_empty queue ops o group e h = h ∙ sym (ap (λ g. group_ops queue o (group_of g)) e)
+pub group_pushed : {E : Type 0} (queue ops placed both after : List Op) (o : Order) (group : List Filled) (fills : List Fill) (r : Result (Unit {0}) E)
+    → placed ++ places (placed_by (queue ++ placed)) (o ∷ []) ≡ ops ++ places (placed_by (queue ++ ops)) (makers_in (group_of group) ++ o ∷ [])
+    → both ++ places (placed_by (queue ++ both)) [] ≡ placed ++ places (placed_by (queue ++ placed)) (o ∷ [])
+    → fills ≡ fills_of (group_of group) → after ≡ cond (is_ok r) (both ++ Match o.id fills ∷ []) both → OnOk r (after ≡ with_group queue o ops (group_of group))
+group_pushed queue ops placed both after o group fills (Ok u) e f i j = group_added queue ops placed both after o group fills e f i j
+group_pushed queue ops placed both after o group fills (Err x) e f i j = tt
 
-closed_seen : (queue : List Op) (o : Order) (s : State) (p : Taking) (group : List Filled) → p.group ≡ group
-    → closed_match queue o (seen s p)
-    ≡ record { state = s; group = []; ops = group_ops queue o (group_of group); gone = p.gone; filled = p.filled; fills = p.fills; offsets = 0; stop = p.stop }
-unfolding closed group_ops
-closed_seen queue o s p [] e = ap (λ (g : List Filled). closed_match queue o (record { state = s; group = group_of g; ops = []; gone = p.gone; filled = p.filled; fills = p.fills; offsets = 0; stop = p.stop })) e
-closed_seen queue o s p (x ∷ xs) e =
-    ap (λ (g : List Filled). closed_match queue o (record { state = s; group = group_of g; ops = []; gone = p.gone; filled = p.filled; fills = p.fills; offsets = 0; stop = p.stop })) e
-    ∙ ap (λ l. record { state = s; group = []; ops = places (placed_by l) (makers_in (group_of (x ∷ xs)) ++ o ∷ []) ++ Match o.id (fills_of (group_of (x ∷ xs))) ∷ []; gone = p.gone; filled = p.filled; fills = p.fills; offsets = 0; stop = p.stop }) (append-nil queue)
+-- a taking with other fills that stand in no operation
+abbrev with_fills : State → Taking → List Filled → Taken
+with_fills s p g = record { state = s; group = group_of g; ops = p.ops; gone = p.gone; filled = p.filled; fills = p.fills; offsets = 0; stop = p.stop }
+
+-- a group with no fill is closed
+pub closed_already : (queue : List Op) (o : Order) (s : State) (p : Taking) → p.group ≡ [] → seen s p ≡ closed_match queue o (seen s p)
+unfolding closed
+closed_already queue o s p e = ap (with_fills s p) e ∙ sym (ap (λ g. closed_match queue o (with_fills s p g)) e)
+
+with_operations : (queue : List Op) (o : Order) (s : State) (p : Taking) (g : List Filled) → 0 < length g
+    → record { state = s; group = []; ops = with_group queue o p.ops (group_of g); gone = p.gone; filled = p.filled; fills = p.fills; offsets = 0; stop = p.stop }
+    ≡ closed_match queue o (with_fills s p g)
+unfolding closed with_group
+with_operations queue o s p [] h = absurd (omega arith)
+with_operations queue o s p (x ∷ xs) h = refl
+
+-- and one with fills becomes operations
+pub closes : (queue ops : List Op) (o : Order) (s : State) (p : Taking) (group same rest : List Filled) → 0 < length p.group → group ≡ p.group → same ≡ group → rest ≡ []
+    → ops ≡ with_group queue o p.ops (group_of same)
+    → record { state = s; group = group_of rest; ops = ops; gone = p.gone; filled = p.filled; fills = p.fills; offsets = 0; stop = p.stop } ≡ closed_match queue o (seen s p)
+closes queue ops o s p group same rest h i k n e =
+    ap (λ g. record { state = s; group = group_of g; ops = ops; gone = p.gone; filled = p.filled; fills = p.fills; offsets = 0; stop = p.stop }) n
+    ∙ ap (λ l. record { state = s; group = []; ops = l; gone = p.gone; filled = p.filled; fills = p.fills; offsets = 0; stop = p.stop }) (e ∙ ap (λ g. with_group queue o p.ops (group_of g)) (k ∙ i))
+    ∙ with_operations queue o s p p.group h
 
 limits_kept : (queue : List Op) (t : Taken) → has_too_many_ops (queue ++ t.ops) ≡ false → within_limits queue t ≡ Some t
 unfolding within_limits
@@ -126,24 +134,20 @@ limits_passed : (queue : List Op) (t : Taken) → has_too_many_ops (queue ++ t.o
 unfolding within_limits
 limits_passed queue t e = ap (λ b. cond b None (Some t)) e
 
-ended_as : (queue ops : List Op) (o : Order) (s : State) (p : Taking) → ops ≡ group_ops queue o (group_of p.group)
-    → closed_match queue o (seen s p) ≡ record { state = s; group = []; ops = ops; gone = p.gone; filled = p.filled; fills = p.fills; offsets = 0; stop = p.stop }
-ended_as queue ops o s p e =
-    closed_seen queue o s p p.group refl ∙ ap (λ l. record { state = s; group = []; ops = l; gone = p.gone; filled = p.filled; fills = p.fills; offsets = 0; stop = p.stop }) (sym e)
-
 tested : (queue same ops more : List Op) (many b : Bool) → many ≡ has_too_many_ops (same ++ more) → many ≡ b → same ≡ queue → more ≡ ops → has_too_many_ops (queue ++ ops) ≡ b
 tested queue same ops more many b e f g h = ap has_too_many_ops (ap (λ l. l ++ ops) (sym g) ∙ ap (λ l. same ++ l) (sym h)) ∙ sym e ∙ f
 
 -- a taking that ends within the limits
-pub ends_within : (queue same ops more : List Op) (o : Order) (s : State) (p : Taking) (many : Bool) → ops ≡ group_ops queue o (group_of p.group)
-    → many ≡ has_too_many_ops (same ++ more) → many ≡ false → same ≡ queue → more ≡ ops
-    → within_limits queue (closed_match queue o (seen s p)) ≡ Some (record { state = s; group = []; ops = ops; gone = p.gone; filled = p.filled; fills = p.fills; offsets = 0; stop = p.stop })
-ends_within queue same ops more o s p many e f g h i =
-    ap (within_limits queue) (ended_as queue ops o s p e) ∙ limits_kept queue _ (tested queue same ops more many false f g h i)
+pub ends_within : (queue same more : List Op) (o : Order) (s : State) (p q : Taking) (many : Bool) → seen s q ≡ closed_match queue o (seen s p) → q.group ≡ []
+    → many ≡ has_too_many_ops (same ++ more) → many ≡ false → same ≡ queue → more ≡ q.ops
+    → within_limits queue (closed_match queue o (seen s p)) ≡ Some (record { state = s; group = []; ops = q.ops; gone = q.gone; filled = q.filled; fills = q.fills; offsets = 0; stop = q.stop })
+ends_within queue same more o s p q many c n f g h i =
+    ap (within_limits queue) (sym c) ∙ limits_kept queue (seen s q) (tested queue same q.ops more many false f g h i)
+    ∙ ap (λ l. Some (record { state = s; group = group_of l; ops = q.ops; gone = q.gone; filled = q.filled; fills = q.fills; offsets = 0; stop = q.stop })) n
 
 -- and one that would not
-pub ends_beyond : (queue same ops more : List Op) (o : Order) (s : State) (p : Taking) (many : Bool) → ops ≡ group_ops queue o (group_of p.group)
-    → many ≡ has_too_many_ops (same ++ more) → many ≡ true → same ≡ queue → more ≡ ops
+pub ends_beyond : (queue same more : List Op) (o : Order) (s : State) (p q : Taking) (many : Bool) → seen s q ≡ closed_match queue o (seen s p)
+    → many ≡ has_too_many_ops (same ++ more) → many ≡ true → same ≡ queue → more ≡ q.ops
     → within_limits queue (closed_match queue o (seen s p)) ≡ None
-ends_beyond queue same ops more o s p many e f g h i =
-    ap (within_limits queue) (ended_as queue ops o s p e) ∙ limits_passed queue _ (tested queue same ops more many true f g h i)
+ends_beyond queue same more o s p q many c f g h i =
+    ap (within_limits queue) (sym c) ∙ limits_passed queue (seen s q) (tested queue same q.ops more many true f g h i)

@@ -6,4 +6,3 @@ pub mod Amounts
 pub mod Standing
 pub mod Notes
 pub mod Groups
-pub mod Trying

@@ -28,7 +28,7 @@ pub noted_gone : (maker : Order) (amount : ℕ) (s t : State) (before : Taking) 
     → last ≡ with_fill maker amount s (seen t before)
 unfolding with_fill
 noted_gone maker amount s t before group last h z e =
-    let noted : List FilledMaker → Taken = λ g. record { state = s; group = g; ops = []; gone = before.gone; filled = before.filled + amount; fills = before.fills + 1; offsets = 0; stop = before.stop } in
+    let noted : List FilledMaker → Taken = λ g. record { state = s; group = g; ops = before.ops; gone = before.gone; filled = before.filled + amount; fills = before.fills + 1; offsets = 0; stop = before.stop } in
     let more : group_of group ≡ group_of before.group ++ record { maker = maker; amount = amount } ∷ [] = ap group_of h ∙ map-append _ before.group _ in
     e ∙ ap (λ g. leaves maker.id (noted g)) more ∙ rw z refl
 

@@ -1,5 +1,6 @@
 -- A list in the order of a test: what a filter leaves is in order too, and nothing comes before what stands before it.
-use Rattle.std.proofs.Common.{◌≡◌, ℕ, suc, ◌≤◌, Bool, true, false, cond, Some, List, [], ◌∷◌, filter, drop, length, refl, sym, ap, ◌∙◌, arith}
+pub use Rattle.dx_book.proofs.Walks.{length_sorted, filter_shorter}
+use Rattle.std.proofs.Common.{◌≡◌, ℕ, suc, Bool, true, false, cond, Some, List, [], ◌∷◌, filter, drop, refl, sym, ap, ◌∙◌}
 use Prim.Native.Nat.{zero}
 use Rattle.std.specs.Prelude.{slice_get}
 use Rattle.std.specs.List.{AllByRecursion}
@@ -67,24 +68,3 @@ module _ {X : Type 0} (lt : X → X → Bool) (o : IsStrictWeakOrder lt) where
       filter_put p x (sorted_by lt xs) (sorted_in_order xs)
       ∙ ap (λ l. cond (p x) (put_by lt x l) l) (filter_sorted p xs)
       ∙ elim (p x) as (λ b. cond b (put_by lt x (sorted_by lt (filter p xs))) (sorted_by lt (filter p xs)) ≡ sorted_by lt (cond b (x ∷ filter p xs) (filter p xs))) [ true ↦ refl | false ↦ refl ]
-
--- as long as before
-length_put : {X : Type 0} (lt : X → X → Bool) (x : X) (ys : List X) → length (put_by lt x ys) ≡ length (x ∷ ys)
-length_put lt x [] = refl
-length_put lt x (y ∷ ys) = go (lt y x) (length_put lt x ys)
-  where
-    go : (b : Bool) → length (put_by lt x ys) ≡ length (x ∷ ys) → length (cond b (y ∷ put_by lt x ys) (x ∷ y ∷ ys)) ≡ length (x ∷ y ∷ ys)
-    go true e = ap suc e
-    go false e = refl
-
-pub length_sorted : {X : Type 0} (lt : X → X → Bool) (xs : List X) → length (sorted_by lt xs) ≡ length xs
-length_sorted lt [] = refl
-length_sorted lt (x ∷ xs) = length_put lt x (sorted_by lt xs) ∙ ap suc (length_sorted lt xs)
-
-pub filter_shorter : {X : Type 0} (test : X → Bool) (xs : List X) → length (filter test xs) ≤ length xs
-filter_shorter test [] = omega arith
-filter_shorter test (x ∷ xs) = go (test x) (filter_shorter test xs)
-  where
-    go : (b : Bool) → length (filter test xs) ≤ length xs → length (cond b (x ∷ filter test xs) (filter test xs)) ≤ length (x ∷ xs)
-    go true h = omega arith
-    go false h = omega arith

@@ -12,8 +12,26 @@ group_of fills = map (λ f. record { maker = f.maker; amount = f.amount }) fills
 
 -- a taking that may go on, in a state
 abbrev pub seen : State → Taking → Taken
-seen s p = record { state = s; group = group_of p.group; ops = []; gone = p.gone; filled = p.filled; fills = p.fills; offsets = 0; stop = p.stop }
+seen s p = record {
+  state = s;
+  group = group_of p.group;
+  ops = p.ops;
+  gone = p.gone;
+  filled = p.filled;
+  fills = p.fills;
+  offsets = 0;
+  stop = p.stop;
+}
 
 -- a taking that has come to its end, in a state
 abbrev pub ended : State → Result → Taken
-ended s r = record { state = s; group = []; ops = r.ops; gone = r.gone; filled = r.filled; fills = r.fills; offsets = r.offsets; stop = r.stop }
+ended s r = record {
+  state = s;
+  group = [];
+  ops = r.ops;
+  gone = r.gone;
+  filled = r.filled;
+  fills = r.fills;
+  offsets = r.offsets;
+  stop = r.stop;
+}

@@ -3,7 +3,6 @@ use Rattle.std.specs.Prelude.{ℕ, min, Bool, not, ◌||◌, ◌==◌, if◌then
 use Rattle.dx_types.specs.declared.Order.{Order}
 use Rattle.dx_types.specs.declared.Op.{Op}
 use Rattle.dx_types.specs.declared.Op.TheVariants.{Match}
-use Rattle.dx_spec.specs.Lists.{is_empty}
 use Rattle.dx_spec.specs.State.{State, is_same_account}
 use Rattle.dx_spec.specs.Orders.{crosses}
 use Rattle.dx_spec.specs.Fills.{fill_step}
@@ -17,13 +16,15 @@ is_over s o stop = not (stop == 0) || left s o == 0
 
 -- what a tried fill of the order leads to
 unfoldable pub tried : List Op → Order → Order → ℕ → Taken → Result State ℕ → Taken
-tried queue o maker amount t step = after_try (closed_match queue o) (λ code. record t { stop = code }) maker amount t step
+tried queue o maker amount t step =
+    after_try (closed_match queue o) (λ code. record t { stop = code }) maker amount t step
 
 -- the order takes a maker
 unfoldable pub take_maker : List Op → Order → Taken → Order → Taken
 take_maker queue o t maker =
     if is_same_account maker.id.who o.id.who then leaves maker.id t
-    else (let amount = min (left t.state o) (left t.state maker) in tried queue o maker amount t (fill_step t.state o maker amount))
+    else (let amount = min (left t.state o) (left t.state maker) in
+    tried queue o maker amount t (fill_step t.state o maker amount))
 
 -- the side of the book that the order looks at, the best price first, and then the earliest
 unfoldable pub opposite : List Order → Order → List Order
@@ -33,6 +34,7 @@ opposite book o = side_of book o.id.market (not o.buy)
 unfoldable pub takable : Order → List Order → List Order
 takable o orders = filter (crosses o) (without orders o.id)
 
--- the operations of a group of fills
-unfoldable pub group_ops : List Op → Order → List FilledMaker → List Op
-group_ops queue o group = if is_empty group then [] else places (placed_by queue) (makers_in group ++ o ∷ []) ++ Match o.id (fills_of group) ∷ []
+-- operations with those of a group of fills behind them
+unfoldable pub with_group : List Op → Order → List Op → List FilledMaker → List Op
+with_group queue o ops group =
+    ops ++ places (placed_by (queue ++ ops)) (makers_in group ++ o ∷ []) ++ Match o.id (fills_of group) ∷ []

@@ -16,8 +16,6 @@ mod faults;
 mod matching;
 mod stepping;
 mod taken;
-#[cfg(test)]
-mod tests;
 
 pub use faults::TakeFault;
 pub use matching::match_order;

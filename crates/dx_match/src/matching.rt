@@ -25,31 +25,37 @@ use std::alloc::Global;
 
 /// Takes the makers of an order, the best price first and then the earliest, until the order takes no more or
 /// none crosses it.
-fn take_all<L: Branch>(alloc: Global, l: &mut L, b: &Book, o: &Order) -> Result<Taking, NoMemory>
-    requires steady { IsSteady (L.content l.old) }
-    requires order { IsTradable (L.content l.old) o.now }
-    requires book { IsBookFor (L.content l.old) b.now.orders }
-    ensures ok { (queue : Items AnyOp) → IfOk result (λ t. seen (L.content l.new) t
-        ≡ fold (take_one queue o.now) (nothing_taken (L.content l.old)) (makers_of b.now.orders o.now)) }
-    ensures kept { OnOk result (KeepsSteady (L.content l.old) (L.content l.new)) }
-    ensures marks { KeepsMarks L.stands L.marked l.old l.new }
-    ensures beside { L.beside l.new ≡ L.beside l.old }
+fn take_all<L: Branch>(
+    alloc: Global,
+    ledger: &mut L,
+    book: &Book,
+    order: &Order,
+) -> Result<Taking, NoMemory>
+    requires steady { IsSteady (L.content ledger.old) }
+    requires order { IsTradable (L.content ledger.old) order.now }
+    requires book { IsBookFor (L.content ledger.old) book.now.orders }
+    ensures ok { (queue : Items AnyOp) → IfOk result (λ t. seen (L.content ledger.new) t
+        ≡ fold (take_one queue order.now) (nothing_taken (L.content ledger.old))
+        (makers_of book.now.orders order.now)) }
+    ensures kept { OnOk result (KeepsSteady (L.content ledger.old) (L.content ledger.new)) }
+    ensures marks { KeepsMarks L.stands L.marked ledger.old ledger.new }
+    ensures beside { L.beside ledger.new ≡ L.beside ledger.old }
 {
     let mut taking = start(alloc);
-    let mut next = b.first(o.id.market, !o.buy);
-    for _number in 0..b.len() {
+    let mut next = book.first(order.id.market, !order.buy);
+    for _number in 0..book.len() {
         let Some(key) = next else {
             return Ok(taking);
         };
-        let maker = b.order(key);
-        if is_over(l, o, taking.stop) {
+        let maker = book.order(key);
+        if is_over(ledger, order, taking.stop) {
             return Ok(taking);
         }
-        if !crosses(o, &maker) {
+        if !crosses(order, &maker) {
             return Ok(taking);
         }
-        take(l, o, &maker, &mut taking)?;
-        next = b.next(key);
+        take(ledger, order, &maker, &mut taking)?;
+        next = book.next(key);
     }
     Ok(taking)
 }
@@ -57,22 +63,24 @@ fn take_all<L: Branch>(alloc: Global, l: &mut L, b: &Book, o: &Order) -> Result<
 /// Takes, and leaves what it has written where nothing comes of it.
 fn try_match<L: Branch>(
     alloc: Global,
-    l: &mut L,
-    b: &Book,
-    q: &Queue,
-    o: &Order,
+    ledger: &mut L,
+    book: &Book,
+    queue: &Queue,
+    order: &Order,
 ) -> Result<Taken, TakeFault>
-    requires steady { IsSteady (L.content l.old) }
-    requires order { IsTradable (L.content l.old) o.now }
-    requires book { IsBookFor (L.content l.old) b.now.orders }
-    ensures ok { IfOk result (λ t. take_order (L.content l.old) b.now.orders q.now o.now ≡ Some (ended (L.content l.new) t)) }
-    ensures full { result ≡ Err TakeFault.Full → take_order (L.content l.old) b.now.orders q.now o.now ≡ None }
-    ensures kept { OnOk result (KeepsSteady (L.content l.old) (L.content l.new)) }
-    ensures marks { KeepsMarks L.stands L.marked l.old l.new }
-    ensures beside { L.beside l.new ≡ L.beside l.old }
+    requires steady { IsSteady (L.content ledger.old) }
+    requires order { IsTradable (L.content ledger.old) order.now }
+    requires book { IsBookFor (L.content ledger.old) book.now.orders }
+    ensures ok { IfOk result (λ t. take_order (L.content ledger.old) book.now.orders queue.now order.now
+        ≡ Some (ended (L.content ledger.new) t)) }
+    ensures full { result ≡ Err TakeFault.Full
+        → take_order (L.content ledger.old) book.now.orders queue.now order.now ≡ None }
+    ensures kept { OnOk result (KeepsSteady (L.content ledger.old) (L.content ledger.new)) }
+    ensures marks { KeepsMarks L.stands L.marked ledger.old ledger.new }
+    ensures beside { L.beside ledger.new ≡ L.beside ledger.old }
 {
-    let taking = take_all(alloc, l, b, o)?;
-    close(alloc, q, o, taking)
+    let taking = take_all(alloc, ledger, book, order)?;
+    close(alloc, queue, order, taking)
 }
 
 /// Takes for an order what a book offers ("Taking" and "What the queue gets" in docs/RULES.md).
@@ -80,35 +88,38 @@ fn try_match<L: Branch>(
 /// The order takes the orders of the other side that it crosses, the best price first and then the earliest,
 /// each at its own price, by the lesser of what is left of both. A maker of the order's own account leaves the
 /// book, and so does one with nothing left and one whose account does not bear the fill; any other refusal
-/// stops the order with its code. The order of the same id in the book stands aside. `o` need not be in the
-/// book, and the book and the queue stay as they are: the caller takes `gone` out and pushes `ops`.
+/// stops the order with its code. The order of the same id in the book stands aside. `order` need not be in
+/// the book, and the book and the queue stay as they are: the caller takes `gone` out and pushes `ops`.
 ///
 /// `Full` where the queue would have more than 1,024 operations, or more than 4,096 fills and offsets
 /// together; `NoMemory` where there is none. The content is then as before.
 pub fn match_order<L: Branch>(
     alloc: Global,
-    l: &mut L,
-    b: &Book,
-    q: &Queue,
-    o: &Order,
+    ledger: &mut L,
+    book: &Book,
+    queue: &Queue,
+    order: &Order,
 ) -> Result<Taken, TakeFault>
-    requires steady { IsSteady (L.content l.old) }
-    requires order { IsTradable (L.content l.old) o.now }
-    requires book { IsBookFor (L.content l.old) b.now.orders }
-    ensures ok { IfOk result (λ t. take_order (L.content l.old) b.now.orders q.now o.now ≡ Some (ended (L.content l.new) t)) }
-    ensures full { result ≡ Err TakeFault.Full → take_order (L.content l.old) b.now.orders q.now o.now ≡ None }
-    ensures err { OnErr result (L.content l.new ≡ L.content l.old) }
-    ensures steady { OnOk result (IsSteady (L.content l.new)) }
-    ensures balanced { OnOk result (Balanced (L.content l.new)) }
-    ensures within { (most : ℕ) → SoundWithin most (L.content l.old) → OnOk result (StepKeeps most (L.content l.old) (L.content l.new)) }
-    ensures marks { KeepsMarks L.stands L.marked l.old l.new }
-    ensures beside { L.beside l.new ≡ L.beside l.old }
+    requires steady { IsSteady (L.content ledger.old) }
+    requires order { IsTradable (L.content ledger.old) order.now }
+    requires book { IsBookFor (L.content ledger.old) book.now.orders }
+    ensures ok { IfOk result (λ t. take_order (L.content ledger.old) book.now.orders queue.now order.now
+        ≡ Some (ended (L.content ledger.new) t)) }
+    ensures full { result ≡ Err TakeFault.Full
+        → take_order (L.content ledger.old) book.now.orders queue.now order.now ≡ None }
+    ensures err { OnErr result (L.content ledger.new ≡ L.content ledger.old) }
+    ensures steady { OnOk result (IsSteady (L.content ledger.new)) }
+    ensures balanced { OnOk result (Balanced (L.content ledger.new)) }
+    ensures within { (most : ℕ) → SoundWithin most (L.content ledger.old)
+        → OnOk result (StepKeeps most (L.content ledger.old) (L.content ledger.new)) }
+    ensures marks { KeepsMarks L.stands L.marked ledger.old ledger.new }
+    ensures beside { L.beside ledger.new ≡ L.beside ledger.old }
 {
-    let mark = l.mark()?;
-    match try_match(alloc, l, b, q, o) {
+    let mark = ledger.mark()?;
+    match try_match(alloc, ledger, book, queue, order) {
         Ok(taken) => Ok(taken),
         Err(fault) => {
-            l.rollback(mark);
+            ledger.rollback(mark);
             Err(fault)
         }
     }

@@ -22,17 +22,17 @@ use dx_trade::{Refusal, filled_of};
 use dx_types::{NoMemory, Order};
 
 /// What is left of an order: base quantums ("Book" in docs/RULES.md).
-pub fn left<L: Ledger>(l: &L, o: &Order) -> u64
-    ensures { result ≡ left_in (L.content l.now) o.now }
+pub fn left<L: Ledger>(ledger: &L, order: &Order) -> u64
+    ensures { result ≡ left_in (L.content ledger.now) order.now }
 {
-    o.size.saturating_sub(filled_of(l, &o.id))
+    order.size.saturating_sub(filled_of(ledger, &order.id))
 }
 
 /// Whether an order takes no more: it is stopped, or has nothing left.
-pub(crate) fn is_over<L: Ledger>(l: &L, o: &Order, stop: u32) -> bool
-    ensures { result ≡ over (L.content l.now) o.now stop }
+pub(crate) fn is_over<L: Ledger>(ledger: &L, order: &Order, stop: u32) -> bool
+    ensures { result ≡ over (L.content ledger.now) order.now stop }
 {
-    stop != 0 || left(l, o) == 0
+    stop != 0 || left(ledger, order) == 0
 }
 
 /// A maker leaves the book.
@@ -47,14 +47,15 @@ fn leave(taking: &mut Taking, maker: &Order) -> Result<(), NoMemory>
 /// Notes a fill that was made.
 #[tactic(auto, unfolding(dx_node_spec::specs::Taking::with_fill))]
 fn note_fill<L: Ledger>(
-    l: &L,
+    ledger: &L,
     taking: &mut Taking,
     maker: &Order,
     amount: u64,
 ) -> Result<(), NoMemory>
     requires fills { taking.old.fills + 1 < 2 ^ 32 }
     requires filled { taking.old.filled + amount < 2 ^ 64 }
-    ensures ok { (s : AnyState) → OnOk result (seen (L.content l.now) taking.new ≡ with_fill maker.now amount (L.content l.now) (seen s taking.old)) }
+    ensures ok { (s : AnyState) → OnOk result (seen (L.content ledger.now) taking.new
+        ≡ with_fill maker.now amount (L.content ledger.now) (seen s taking.old)) }
     ensures filled { OnOk result (taking.new.filled ≡ taking.old.filled + amount) }
     ensures fills { OnOk result (taking.new.fills ≡ taking.old.fills + 1) }
 {
@@ -64,7 +65,7 @@ fn note_fill<L: Ledger>(
     })?;
     taking.filled += amount;
     taking.fills += 1;
-    if left(l, maker) == 0 {
+    if left(ledger, maker) == 0 {
         return leave(taking, maker);
     }
     Ok(())
@@ -74,8 +75,8 @@ fn note_fill<L: Ledger>(
 /// other code stops the order.
 fn note_refusal(taking: &mut Taking, maker: &Order, fault: OpFault) -> Result<(), NoMemory>
     requires { IsTrue (is_short_term maker.now.id) }
-    ensures ok { (queue : Items AnyOp) (s : AnyState) (o : AnyOrder) (amount : ℕ) (step : Answer AnyState ℕ) → IsFaultOf step fault
-        → OnOk result (seen s taking.new ≡ tried queue o maker.now amount (seen s taking.old) step) }
+    ensures ok { (queue : Items AnyOp) (s : AnyState) (o : AnyOrder) (amount : ℕ) (step : Answer AnyState ℕ)
+        → IsFaultOf step fault → OnOk result (seen s taking.new ≡ tried queue o maker.now amount (seen s taking.old) step) }
     ensures filled { OnOk result (taking.new.filled ≡ taking.old.filled) }
     ensures fills { OnOk result (taking.new.fills ≡ taking.old.fills) }
 {
@@ -93,27 +94,28 @@ fn note_refusal(taking: &mut Taking, maker: &Order, fault: OpFault) -> Result<()
 
 /// Fills the order against a maker by an amount of base quantums, and notes what that leads to.
 fn try_maker<L: Branch>(
-    l: &mut L,
-    o: &Order,
+    ledger: &mut L,
+    order: &Order,
     maker: &Order,
     amount: u64,
     taking: &mut Taking,
 ) -> Result<(), NoMemory>
-    requires fillable { CanFillBoth (L.content l.old) o.now maker.now }
+    requires fillable { CanFillBoth (L.content ledger.old) order.now maker.now }
     requires short_term { IsTrue (is_short_term maker.now.id) }
-    requires within { taking.old.filled ≤ filled_in (L.content l.old) o.now.id }
+    requires within { taking.old.filled ≤ filled_in (L.content ledger.old) order.now.id }
     requires room { taking.old.filled + amount < 2 ^ 64 }
     requires fills { taking.old.fills + 1 < 2 ^ 32 }
-    ensures ok { (queue : Items AnyOp) → OnOk result (seen (L.content l.new) taking.new
-        ≡ tried queue o.now maker.now amount (seen (L.content l.old) taking.old) (fill_step (L.content l.old) o.now maker.now amount)) }
-    ensures kept { OnOk result (KeepsSteady (L.content l.old) (L.content l.new)) }
-    ensures within { OnOk result (taking.new.filled ≤ filled_in (L.content l.new) o.now.id) }
+    ensures ok { (queue : Items AnyOp) → OnOk result (seen (L.content ledger.new) taking.new
+        ≡ tried queue order.now maker.now amount (seen (L.content ledger.old) taking.old)
+        (fill_step (L.content ledger.old) order.now maker.now amount)) }
+    ensures kept { OnOk result (KeepsSteady (L.content ledger.old) (L.content ledger.new)) }
+    ensures within { OnOk result (taking.new.filled ≤ filled_in (L.content ledger.new) order.now.id) }
     ensures fills { OnOk result (taking.new.fills ≤ taking.old.fills + 1) }
-    ensures marks { KeepsMarks L.stands L.marked l.old l.new }
-    ensures beside { L.beside l.new ≡ L.beside l.old }
+    ensures marks { KeepsMarks L.stands L.marked ledger.old ledger.new }
+    ensures beside { L.beside ledger.new ≡ L.beside ledger.old }
 {
-    match fill(l, o, maker, amount) {
-        Ok(()) => note_fill(l, taking, maker, amount),
+    match fill(ledger, order, maker, amount) {
+        Ok(()) => note_fill(ledger, taking, maker, amount),
         Err(fault) => note_refusal(taking, maker, fault),
     }
 }
@@ -121,52 +123,53 @@ fn try_maker<L: Branch>(
 /// Takes a maker: one of the order's own account leaves the book, and any other is filled by the lesser of
 /// what is left of both.
 fn take_maker<L: Branch>(
-    l: &mut L,
-    o: &Order,
+    ledger: &mut L,
+    order: &Order,
     maker: &Order,
     taking: &mut Taking,
 ) -> Result<(), NoMemory>
-    requires fillable { CanFillBoth (L.content l.old) o.now maker.now }
+    requires fillable { CanFillBoth (L.content ledger.old) order.now maker.now }
     requires short_term { IsTrue (is_short_term maker.now.id) }
-    requires within { taking.old.filled ≤ filled_in (L.content l.old) o.now.id }
+    requires within { taking.old.filled ≤ filled_in (L.content ledger.old) order.now.id }
     requires fills { taking.old.fills + 1 < 2 ^ 32 }
-    ensures ok { (queue : Items AnyOp) → OnOk result (seen (L.content l.new) taking.new
-        ≡ taken_from queue o.now (seen (L.content l.old) taking.old) maker.now) }
-    ensures kept { OnOk result (KeepsSteady (L.content l.old) (L.content l.new)) }
-    ensures within { OnOk result (taking.new.filled ≤ filled_in (L.content l.new) o.now.id) }
+    ensures ok { (queue : Items AnyOp) → OnOk result (seen (L.content ledger.new) taking.new
+        ≡ taken_from queue order.now (seen (L.content ledger.old) taking.old) maker.now) }
+    ensures kept { OnOk result (KeepsSteady (L.content ledger.old) (L.content ledger.new)) }
+    ensures within { OnOk result (taking.new.filled ≤ filled_in (L.content ledger.new) order.now.id) }
     ensures fills { OnOk result (taking.new.fills ≤ taking.old.fills + 1) }
-    ensures marks { KeepsMarks L.stands L.marked l.old l.new }
-    ensures beside { L.beside l.new ≡ L.beside l.old }
+    ensures marks { KeepsMarks L.stands L.marked ledger.old ledger.new }
+    ensures beside { L.beside ledger.new ≡ L.beside ledger.old }
 {
-    if is_same_account(maker.id.who, o.id.who) {
+    if is_same_account(maker.id.who, order.id.who) {
         return leave(taking, maker);
     }
-    let amount = left(l, o).min(left(l, maker));
-    try_maker(l, o, maker, amount, taking)
+    let amount = left(ledger, order).min(left(ledger, maker));
+    try_maker(ledger, order, maker, amount, taking)
 }
 
 /// Takes a maker that the order crosses, unless it has the order's own id.
 pub(crate) fn take<L: Branch>(
-    l: &mut L,
-    o: &Order,
+    ledger: &mut L,
+    order: &Order,
     maker: &Order,
     taking: &mut Taking,
 ) -> Result<(), NoMemory>
-    requires fillable { CanFillBoth (L.content l.old) o.now maker.now }
+    requires fillable { CanFillBoth (L.content ledger.old) order.now maker.now }
     requires short_term { IsTrue (is_short_term maker.now.id) }
-    requires goes_on { over (L.content l.old) o.now taking.old.stop ≡ false }
-    requires within { taking.old.filled ≤ filled_in (L.content l.old) o.now.id }
+    requires goes_on { over (L.content ledger.old) order.now taking.old.stop ≡ false }
+    requires within { taking.old.filled ≤ filled_in (L.content ledger.old) order.now.id }
     requires fills { taking.old.fills + 1 < 2 ^ 32 }
-    ensures ok { (queue : Items AnyOp) → OnOk result (seen (L.content l.new) taking.new
-        ≡ fold (take_one queue o.now) (seen (L.content l.old) taking.old) (without (maker.now ∷ []) o.now.id)) }
-    ensures kept { OnOk result (KeepsSteady (L.content l.old) (L.content l.new)) }
-    ensures within { OnOk result (taking.new.filled ≤ filled_in (L.content l.new) o.now.id) }
+    ensures ok { (queue : Items AnyOp) → OnOk result (seen (L.content ledger.new) taking.new
+        ≡ fold (take_one queue order.now) (seen (L.content ledger.old) taking.old)
+        (without (maker.now ∷ []) order.now.id)) }
+    ensures kept { OnOk result (KeepsSteady (L.content ledger.old) (L.content ledger.new)) }
+    ensures within { OnOk result (taking.new.filled ≤ filled_in (L.content ledger.new) order.now.id) }
     ensures fills { OnOk result (taking.new.fills ≤ taking.old.fills + 1) }
-    ensures marks { KeepsMarks L.stands L.marked l.old l.new }
-    ensures beside { L.beside l.new ≡ L.beside l.old }
+    ensures marks { KeepsMarks L.stands L.marked ledger.old ledger.new }
+    ensures beside { L.beside ledger.new ≡ L.beside ledger.old }
 {
-    if is_same_id(maker.id, o.id) {
+    if is_same_id(maker.id, order.id) {
         return Ok(());
     }
-    take_maker(l, o, maker, taking)
+    take_maker(ledger, order, maker, taking)
 }

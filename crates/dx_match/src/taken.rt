@@ -35,6 +35,8 @@ pub(crate) struct Filled {
 /// How far a taking is.
 #[derive(Debug, Drop)]
 pub(crate) struct Taking {
+    /// The operations of the groups that are closed, in order.
+    pub(crate) ops: List<Op>,
     /// The fills that stand in no operation yet, in order.
     pub(crate) group: List<Filled>,
     /// The makers that leave the book, in order.
@@ -52,6 +54,7 @@ pub(crate) fn start(alloc: Global) -> Taking
     ensures { (s : State) → seen s result ≡ nothing_taken s }
 {
     Taking {
+        ops: List::new(alloc),
         group: List::new(alloc),
         gone: List::new(alloc),
         filled: 0,

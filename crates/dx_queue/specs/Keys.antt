@@ -13,15 +13,27 @@ use Rattle.dx_queue.specs.declared.key.IdKey.{IdKey}
 
 -- the key of an id
 abbrev pub key_to : OrderId → IdKey
-key_to id = record { owner = id.who.owner; number = id.who.number; client = id.client; flags = id.flags; market = id.market }
+key_to id = record {
+  owner = id.who.owner;
+  number = id.who.number;
+  client = id.client;
+  flags = id.flags;
+  market = id.market;
+}
 
 -- the id of a key
 abbrev pub id_to : IdKey → OrderId
-id_to k = record { who = record { owner = k.owner; number = k.number }; client = k.client; flags = k.flags; market = k.market }
+id_to k = record {
+  who = record { owner = k.owner; number = k.number };
+  client = k.client;
+  flags = k.flags;
+  market = k.market;
+}
 
 -- both are one key
 abbrev pub is_same_key : IdKey → IdKey → Bool
-is_same_key j k = j.owner == k.owner && (j.number == k.number && (j.client == k.client && (j.flags == k.flags && j.market == k.market)))
+is_same_key j k =
+    j.owner == k.owner && (j.number == k.number && (j.client == k.client && (j.flags == k.flags && j.market == k.market)))
 
 -- the keys after ids are noted, each if it is new
 abbrev pub with_keys : List IdKey → List OrderId → List IdKey

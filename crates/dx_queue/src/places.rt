@@ -14,7 +14,8 @@ use indexmap::IndexMap;
 /// Notes an order as the last one of its id, in room that is made.
 fn note(placed: &mut IndexMap<IdKey, Order>, order: Order)
     requires { 0 < spare placed.old }
-    ensures agrees { (m : Placed) → Agrees placed.old.entries m → Agrees placed.new.entries (with_entry m order.id order) }
+    ensures agrees { (m : Placed) → Agrees placed.old.entries m
+        → Agrees placed.new.entries (with_entry m order.id order) }
     ensures room { spare placed.old ≤ spare placed.new + 1 }
 {
     let _before = placed.insert(IdKey::of(order.id), order).unwrap();

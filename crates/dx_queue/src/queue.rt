@@ -119,6 +119,13 @@ impl Queue {
         self.named.get_index(k).map(|key| key.id())
     }
 
+    /// How many ids the operations mention. It takes no memory.
+    pub fn named_count(&self) -> usize
+        ensures { result ≡ length (named_by self.now) }
+    {
+        self.named.len()
+    }
+
     /// The operations, lent: they are within the limits. It takes no memory.
     pub fn ops(&self) -> &List<Op>
         ensures list { result.now ≡ self.now }

@@ -8,5 +8,5 @@ use Rattle.dx_match.proofs.closing.add_places.Given as goal
 -- the makers that are left lead to what all lead to
 abbrev pub invariant-loop-filled : goal.invariant-loop-filled
 invariant-loop-filled l = (rest : List Order)
-    → l.ops ++ places (placed_by (l.q ++ l.ops)) (makers_in (group_of (drop l.filled-index l.group)) ++ rest)
-    ≡ l.fn.ops ++ places (placed_by (l.q ++ l.fn.ops)) (makers_in (group_of l.group) ++ rest)
+    → l.ops ++ places (placed_by (l.queue ++ l.ops)) (makers_in (group_of (drop l.filled-index l.group)) ++ rest)
+    ≡ l.fn.ops ++ places (placed_by (l.queue ++ l.fn.ops)) (makers_in (group_of l.group) ++ rest)

@@ -5,11 +5,11 @@ use Rattle.dx_match.proofs.closing.close.Goals as goal
 pub returns-then-has_too_many-clause-full : goal.returns-then-has_too_many-clause-full
 returns-then-has_too_many-clause-full c =
     λ s e.
-    ends_beyond c.args.q.now c.as_slice.result.now c.in_ok-ops.ops c.as_slice-2.result.now c.args.o.now s c.args.taking c.has_too_many.result c.in_ok-ops.ensures
+    ends_beyond c.args.queue.now c.as_slice.result.now c.as_slice-2.result.now c.args.order.now s c.args.taking c.close_group.new.taking c.has_too_many.result (c.in_ok-close_group.ensures.ok s)
     c.has_too_many.ensures c.if-has_too_many.true (c.as_slice.ensures ∙ c.ops.ensures.list) c.as_slice-2.ensures
 
 pub returns-clause-ok : goal.returns-clause-ok
 returns-clause-ok c =
     λ s.
-    ends_within c.args.q.now c.as_slice.result.now c.in_ok-ops.ops c.as_slice-2.result.now c.args.o.now s c.args.taking c.has_too_many.result c.in_ok-ops.ensures
+    ends_within c.args.queue.now c.as_slice.result.now c.as_slice-2.result.now c.args.order.now s c.args.taking c.close_group.new.taking c.has_too_many.result (c.in_ok-close_group.ensures.ok s) c.in_ok-close_group.ensures.closed
     c.has_too_many.ensures c.if-has_too_many.false (c.as_slice.ensures ∙ c.ops.ensures.list) c.as_slice-2.ensures

@@ -1,14 +1,15 @@
-use Rattle.std.proofs.Common.{[], ◌∷◌}
-use Rattle.dx_match.proofs.Notes.{pushed}
-use Rattle.dx_match.proofs.Groups.{group_empty, group_closed}
+use Rattle.std.proofs.Common.{◌∙◌}
+use Rattle.dx_accounts.proofs.Settled.{then_ok}
+use Rattle.dx_match.proofs.Groups.{closed_already, closes}
 use Rattle.dx_match.proofs.closing.close_group.Goals as goal
 
-pub returns-then-is_empty : goal.returns-then-is_empty
-returns-then-is_empty c = group_empty c.args.q.now c.new-ops.result c.args.o.now c.args.group.now c.if-is_empty.ensures c.new-ops.ensures
+pub returns-then-is_empty-clause-ok : goal.returns-then-is_empty-clause-ok
+returns-then-is_empty-clause-ok c = λ s. closed_already c.args.queue.now c.args.order.now s c.args.taking.now c.if-is_empty.ensures
 
-pub returns : goal.returns
-returns c =
-    group_closed c.args.q.now c.new-ops.result c.add_places.new.ops c.add_place.new.ops c.push.new.self c.args.o.now c.args.group.now c.as_slice.result.now c.as_slice-2.result.now c.in_ok-fills.fills
-    c.if-is_empty.ensures c.new-ops.ensures c.as_slice.ensures c.as_slice-2.ensures
-    (c.in_ok-add_places.ensures (c.args.o.now ∷ [])) (c.in_ok-add_place.ensures []) c.in_ok-fills.ensures
-    (pushed c.push.result _ _ _ _ c.in_ok-push.was c.push.ensures)
+pub returns-clause-ok : goal.returns-clause-ok
+returns-clause-ok c =
+    λ s.
+    then_ok _ _ c.add_group.result
+    (λ e. closes c.args.queue.now c.add_group.new.ops c.args.order.now s c.args.taking.now c.replace-group.result c.as_slice.result.now c.replace-group.new.dest
+    c.if-is_empty.ensures c.replace-group.ensures.value c.as_slice.ensures (c.replace-group.ensures.after ∙ c.new.ensures) e)
+    c.add_group.ensures

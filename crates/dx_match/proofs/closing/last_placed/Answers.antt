@@ -9,5 +9,5 @@ use Rattle.dx_match.proofs.closing.last_placed.Goals as goal
 pub returns : goal.returns
 returns c =
     c.loop-op.invariant
-    ∙ ap (λ l. get (fold with_placed (placed_by c.args.q.now) l) c.args.id.now) (take_all c.loop-op.op-index c.args.ops.now c.loop-op-test.false)
-    ∙ ap (λ (p : Placed). get p c.args.id.now) (placed_behind c.args.q.now c.args.ops.now)
+    ∙ ap (λ l. get (fold with_placed (placed_by c.args.queue.now) l) c.args.id.now) (take_all c.loop-op.op-index c.args.ops.now c.loop-op-test.false)
+    ∙ ap (λ (p : Placed). get p c.args.id.now) (placed_behind c.args.queue.now c.args.ops.now)

@@ -5,4 +5,4 @@ use Rattle.dx_match.proofs.closing.last_placed.Given as goal
 
 -- the last one so far
 abbrev pub invariant-loop-op : goal.invariant-loop-op
-invariant-loop-op l = l.found ≡ get (fold with_placed (placed_by l.q) (take l.op-index l.ops)) l.id
+invariant-loop-op l = l.found ≡ get (fold with_placed (placed_by l.queue) (take l.op-index l.ops)) l.id

@@ -15,17 +15,17 @@ use Rattle.dx_match.proofs.matching.take_all.Given as goal
 abbrev pub invariant-loop-number : goal.invariant-loop-number
 invariant-loop-number g l =
     let ledger = g.L.Ledger in
-    let s = ledger.content l.l in
-    let first = ledger.content l.fn.l in
-    let side = opposite l.b.orders l.o in
+    let s = ledger.content l.ledger in
+    let first = ledger.content l.fn.ledger in
+    let side = opposite l.book.orders l.order in
     record {
       kept : KeepsSteady first s;
-      within : l.taking.filled ≤ filled_of s l.o.id;
+      within : l.taking.filled ≤ filled_of s l.order.id;
       fills : l.taking.fills ≤ l._number;
-      held : IfSome l.next (λ key. IsSome (named l.b key));
-      at : order_at l.b l.next ≡ slice_get side l._number;
-      made : (queue : List Op) → fold (take_one queue l.o) (seen s l.taking) (takable l.o (drop l._number side))
-          ≡ fold (take_one queue l.o) (nothing_taken first) (makers_of l.b.orders l.o);
-      marks : KeepsMarks ledger.stands ledger.marked l.fn.l l.l;
-      beside : ledger.beside l.l ≡ ledger.beside l.fn.l;
+      held : IfSome l.next (λ key. IsSome (named l.book key));
+      at : order_at l.book l.next ≡ slice_get side l._number;
+      made : (queue : List Op) → fold (take_one queue l.order) (seen s l.taking) (takable l.order (drop l._number side))
+          ≡ fold (take_one queue l.order) (nothing_taken first) (makers_of l.book.orders l.order);
+      marks : KeepsMarks ledger.stands ledger.marked l.fn.ledger l.ledger;
+      beside : ledger.beside l.ledger ≡ ledger.beside l.fn.ledger;
     }

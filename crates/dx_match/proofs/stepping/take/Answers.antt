@@ -6,8 +6,8 @@ use Rattle.dx_accounts.proofs.Settled.{then_ok}
 
 pub returns-clause-ok : goal.returns-clause-ok
 returns-clause-ok g c =
-    let s = g.L.Ledger.content c.args.l.now in
+    let s = g.L.Ledger.content c.args.ledger.now in
     λ queue.
     then_ok _ _ c.take_maker.result
-    (λ e. takes_other queue c.args.o.now (seen s c.args.taking.now) _ c.args.maker.now c.requires.goes_on (sym c.is_same_id.ensures ∙ c.if-is_same_id.false) e)
+    (λ e. takes_other queue c.args.order.now (seen s c.args.taking.now) _ c.args.maker.now c.requires.goes_on (sym c.is_same_id.ensures ∙ c.if-is_same_id.false) e)
     (c.take_maker.ensures.ok queue)

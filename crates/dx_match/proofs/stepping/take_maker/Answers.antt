@@ -7,21 +7,21 @@ use Rattle.dx_accounts.proofs.Settled.{then_ok}
 
 pub returns-then-is_same_account-clause-ok : goal.returns-then-is_same_account-clause-ok
 returns-then-is_same_account-clause-ok g c =
-    let s = g.L.Ledger.content c.args.l.now in
+    let s = g.L.Ledger.content c.args.ledger.now in
     λ queue.
     then_ok _ _ c.leave.result
-    (λ e. takes_own queue c.args.o.now c.args.maker.now (seen s c.args.taking.now) _ (sym c.is_same_account.ensures ∙ c.if-is_same_account.true) e)
+    (λ e. takes_own queue c.args.order.now c.args.maker.now (seen s c.args.taking.now) _ (sym c.is_same_account.ensures ∙ c.if-is_same_account.true) e)
     (c.leave.ensures.ok s)
 
 pub try_maker-requires-clause-room : goal.try_maker-requires-clause-room
 try_maker-requires-clause-room g c =
-    let s = g.L.Ledger.content c.args.l.now in
-    room_left s c.args.o.now c.args.taking.now.filled c.min-amount.result c.left.result c.left-2.result c.requires.fillable.steady c.requires.fillable.taker_trades c.requires.within c.min-amount.ensures c.left.ensures
+    let s = g.L.Ledger.content c.args.ledger.now in
+    room_left s c.args.order.now c.args.taking.now.filled c.min-amount.result c.left.result c.left-2.result c.requires.fillable.steady c.requires.fillable.taker_trades c.requires.within c.min-amount.ensures c.left.ensures
 
 pub returns-clause-ok : goal.returns-clause-ok
 returns-clause-ok g c =
-    let s = g.L.Ledger.content c.args.l.now in
+    let s = g.L.Ledger.content c.args.ledger.now in
     λ queue.
     then_ok _ _ c.try_maker.result
-    (λ e. takes_filled queue c.args.o.now c.args.maker.now c.min-amount.result c.left.result c.left-2.result (seen s c.args.taking.now) _ (sym c.is_same_account.ensures ∙ c.if-is_same_account.false) c.min-amount.ensures c.left.ensures c.left-2.ensures e)
+    (λ e. takes_filled queue c.args.order.now c.args.maker.now c.min-amount.result c.left.result c.left-2.result (seen s c.args.taking.now) _ (sym c.is_same_account.ensures ∙ c.if-is_same_account.false) c.min-amount.ensures c.left.ensures c.left-2.ensures e)
     (c.try_maker.ensures.ok queue)

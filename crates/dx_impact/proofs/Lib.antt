@@ -1,0 +1,3 @@
+pub mod Quotes
+mod Strides
+pub mod Starting
