@@ -1,8 +1,9 @@
+pub mod Emptied
 pub mod Plain
 pub mod Feeding
 pub mod Crossing
-pub mod Testing
 pub mod Rooms
-pub mod Built
-pub mod Taking
+pub mod Placing
+pub mod Ending
+pub mod Voting
 pub mod Stays

@@ -2,16 +2,17 @@
 use Rattle.std.proofs.Common.{◌≡◌, ℕ, suc, ◌<◌, ◌≤◌, Bool, true, false, cond, not, ◌||◌, nat_le, Option, Some, None, is_some, List, [], ◌∷◌, length, drop, refl, sym, ap, subst, ◌∙◌, arith}
 use Rattle.std.specs.List.{list_any, fold, AllByRecursion}
 use Rattle.std.proofs.lemmas.List.{drop_all}
+use Rattle.std.proofs.lemmas.Bool.{not-true}
 use Rattle.std.proofs.lemmas.Bool.Decides.{nat_tests}
 use Rattle.dx_types.specs.declared.OrderId.{OrderId}
 use Rattle.dx_types.specs.declared.Order.{Order}
 use Rattle.dx_spec.specs.Bounds.{most_orders}
 use Rattle.dx_spec.specs.Orders.{is_same_id}
 use Rattle.dx_node_spec.specs.Book.{resting, without}
-use Rattle.dx_node_spec.specs.Placing.{is_among}
+use Rattle.dx_node_spec.specs.Placing.{is_among, not_gone}
 use Rattle.dx_match.proofs.Sorted.{filter_shorter}
-use Rattle.dx_node.specs.Stages.{not_gone}
-use Rattle.dx_spec.proofs.Each.{all_weaker, all_both}
+use Rattle.dx_node.specs.Trades.{beside}
+use Rattle.dx_spec.proofs.Each.{all_weaker, all_both, all_pass}
 use Rattle.dx_match.proofs.Sides.{all_other}
 
 -- one of the ids is that of an order of the book
@@ -100,11 +101,11 @@ at_most_all : (n : ℕ) → most_orders ≤ n → false ≡ not (nat_le most_ord
 at_most_all n h = grind (arith, nat_tests, h)
 
 -- a book that is not full has room
-pub room_below : (book : List Order) (gone : List OrderId) → length book < most_orders → true ≡ not (nat_le most_orders (length (not_gone gone book)))
+room_below : (book : List Order) (gone : List OrderId) → length book < most_orders → true ≡ not (nat_le most_orders (length (not_gone gone book)))
 room_below book gone h = let f = filter_shorter (λ o. not (is_among gone o)) book in below_most (length (not_gone gone book)) (omega (arith, h, f))
 
 -- a full one has room where one of its orders leaves
-pub room_full : (book : List Order) (gone : List OrderId) (b : Bool) → length book ≤ most_orders → most_orders ≤ length book → b ≡ holds_any book gone → b ≡ not (nat_le most_orders (length (not_gone gone book)))
+room_full : (book : List Order) (gone : List OrderId) (b : Bool) → length book ≤ most_orders → most_orders ≤ length book → b ≡ holds_any book gone → b ≡ not (nat_le most_orders (length (not_gone gone book)))
 room_full book gone true h g e =
     let one = one_among gone book (sym e) in
     let f = fewer gone book one.0 one.1 one.2 in
@@ -129,7 +130,7 @@ one_out id ids (x ∷ xs) =
     ∙ flat x (is_among ids x) (is_same_id x.id id) (not_gone (id ∷ ids) xs)
 
 -- what is left when each of the ids is taken out
-pub all_out : (ids : List OrderId) (xs : List Order) → fold without xs ids ≡ not_gone ids xs
+all_out : (ids : List OrderId) (xs : List Order) → fold without xs ids ≡ not_gone ids xs
 all_out [] xs = sym (all_stay [] xs (none_among [] xs refl))
 all_out (id ∷ ids) xs = all_out ids (without xs id) ∙ one_out id ids xs
 
@@ -145,6 +146,23 @@ still_absent : (gone : List OrderId) (xs : List Order) (id : OrderId) → AllByR
 still_absent gone [] id h = refl
 still_absent gone (x ∷ xs) id h = resting_kept (is_among gone x) x (not_gone gone xs) id h.0 (still_absent gone xs id h.1)
 
--- an id that is not held is not held behind that
-pub absent_after : (gone : List OrderId) (book after : List Order) (id : OrderId) → resting book id ≡ None → after ≡ not_gone gone book → resting after id ≡ None
-absent_after gone book after id n e = subst (λ (os : List Order). resting os id ≡ None) (sym e) (still_absent gone book id (all_other id book n))
+-- beside an order of an id that is taken out with the others
+same_beside : (book : List Order) (id : OrderId) (gone : List OrderId) → not (nat_le most_orders (length (not_gone (id ∷ gone) book))) ≡ not (nat_le most_orders (length (beside book id gone)))
+same_beside book id gone = ap (λ (os : List Order). not (nat_le most_orders (length os))) (sym (one_out id gone book))
+
+-- a book that is not full has room for an order of the id
+pub beside_below : (book : List Order) (id : OrderId) (gone : List OrderId) → length book < most_orders → true ≡ not (nat_le most_orders (length (beside book id gone)))
+beside_below book id gone h = room_below book (id ∷ gone) h ∙ same_beside book id gone
+
+-- a full one where the order of the id or another one leaves
+pub beside_full : (book : List Order) (id : OrderId) (gone : List OrderId) (b : Bool) → length book ≤ most_orders → most_orders ≤ length book → b ≡ holds_any book (id ∷ gone)
+    → b ≡ not (nat_le most_orders (length (beside book id gone)))
+beside_full book id gone b h g e = room_full book (id ∷ gone) b h g e ∙ same_beside book id gone
+
+-- an id that is taken out is not held
+pub own_absent : (gone : List OrderId) (book between after : List Order) (id : OrderId) → between ≡ without book id → after ≡ not_gone gone between → resting after id ≡ None
+own_absent gone book between after id b e =
+    subst (λ (os : List Order). resting os id ≡ None) (sym (e ∙ ap (not_gone gone) b))
+    (still_absent gone (without book id) id
+    (all_weaker (λ x. not (is_same_id x.id id) ≡ true) (λ x. is_same_id x.id id ≡ false) (λ x h. not-true (is_same_id x.id id) h) (without book id)
+    (all_pass (λ x. not (is_same_id x.id id)) book)))

@@ -1,63 +1,83 @@
--- The numbers of refusals, and how a fault agrees with what the definition answers.
-use Rattle.std.specs.Prelude.{◌≡◌, ℕ, Result, Err}
-use Rattle.dx_types.specs.declared.Bad.{Bad as BadPart}
+-- What is told of a refusal, and when it is what the definition answers.
+use Rattle.std.specs.Prelude.{◌≡◌, ℕ, Option, Some, None, Result, Err}
 use Rattle.dx_spec.specs.Refusals as order
-use Rattle.dx_operations.specs.declared.faults.BlockFault.{BlockFault}
-use Rattle.dx_operations.specs.declared.faults.BlockFault.TheVariants as block
-use Rattle.dx_node_spec.specs.Refusals.{not_newer, post_only_cross, book_full, queue_full, unknown_market, bad_price, wrong_time, last_height}
-use Rattle.dx_node_spec.specs.Placing.{Refusal, refusal}
+use Rattle.dx_orders.specs.declared.faults.OrderFault.{OrderFault}
+use Rattle.dx_orders.specs.declared.faults.OrderFault.TheVariants as orders
+use Rattle.dx_node_spec.specs.Refusals as node
+use Rattle.dx_node_spec.specs.Placing.{Refusal}
+use Rattle.dx_node.specs.declared.refusal.Refusal.{Refusal as Told}
 use Rattle.dx_node.specs.declared.faults.PlaceFault.{PlaceFault}
 use Rattle.dx_node.specs.declared.faults.PlaceFault.TheVariants as places
+use Rattle.dx_node.specs.declared.faults.CancelFault.{CancelFault}
+use Rattle.dx_node.specs.declared.faults.CancelFault.TheVariants as cancels
 use Rattle.dx_node.specs.declared.faults.FeedFault.{FeedFault}
 use Rattle.dx_node.specs.declared.faults.FeedFault.TheVariants as feeds
 use Rattle.dx_node.specs.declared.faults.ProposeFault.{ProposeFault}
 use Rattle.dx_node.specs.declared.faults.ProposeFault.TheVariants as proposals
-use Rattle.dx_node.specs.declared.faults.CommitFault.{CommitFault}
-use Rattle.dx_node.specs.declared.faults.CommitFault.TheVariants as commits
 
--- why an order is not placed
-abbrev pub place_number : PlaceFault → ℕ
-place_number places.BadOrder = order.bad_order
-place_number places.TooFar = order.too_far
-place_number places.Expired = order.expired
-place_number places.NotNewer = not_newer
-place_number places.AlreadyFilled = order.already_filled
-place_number places.PostOnlyCross = post_only_cross
-place_number places.BookFull = book_full
-place_number places.QueueFull = queue_full
-place_number places.NoMemory = 0
+-- a cause by its number alone
+abbrev pub cause : ℕ → Told
+cause number = record { number = number; value = None }
+
+-- a cause that names a kept cancel by the height up to which it stands
+abbrev pub cause_until : ℕ → ℕ → Told
+cause_until number until = record { number = number; value = Some until }
+
+-- why an order is not placed; no refusal where there was no memory
+abbrev pub place_cause : PlaceFault → Option Told
+place_cause places.BadOrder = Some (cause order.bad_order)
+place_cause places.TooFar = Some (cause order.too_far)
+place_cause places.Expired = Some (cause order.expired)
+place_cause places.NotNewer = Some (cause node.not_newer)
+place_cause places.AlreadyFilled = Some (cause order.already_filled)
+place_cause (places.Cancelled until) = Some (cause_until node.cancelled until)
+place_cause places.PostOnlyCross = Some (cause node.post_only_cross)
+place_cause places.BookFull = Some (cause node.book_full)
+place_cause places.QueueFull = Some (cause node.queue_full)
+place_cause places.NoMemory = None
+
+-- why an order is not cancelled; the same
+abbrev pub cancel_cause : CancelFault → Option Told
+cancel_cause cancels.BadUntil = Some (cause node.bad_until)
+cancel_cause (cancels.NotNewer kept) = Some (cause_until node.not_later kept)
+cancel_cause cancels.CancelsFull = Some (cause node.cancels_full)
+cancel_cause cancels.NoMemory = None
 
 -- why a price is not fed
-abbrev pub feed_number : FeedFault → ℕ
-feed_number feeds.NoMarket = unknown_market
-feed_number feeds.BadPrice = bad_price
+abbrev pub feed_cause : FeedFault → Told
+feed_cause feeds.NoMarket = cause node.unknown_market
+feed_cause feeds.BadPrice = cause node.bad_price
 
--- why no block is proposed
-abbrev pub propose_number : ProposeFault → ℕ
-propose_number proposals.WrongTime = wrong_time
-propose_number proposals.LastHeight = last_height
-propose_number proposals.NoMemory = 0
+-- why no block is proposed; no refusal where there was no memory
+abbrev pub propose_cause : ProposeFault → Option Told
+propose_cause proposals.WrongTime = Some (cause node.wrong_time)
+propose_cause proposals.LastHeight = Some (cause node.last_height)
+propose_cause proposals.NoMemory = None
 
--- a block that is not applied is not committed, for the same cause
-abbrev pub commit_fault : BlockFault → CommitFault
-commit_fault (block.Bad part) = commits.Bad part
-commit_fault block.NoMemory = commits.NoMemory
+-- a form that is not good refuses the order
+abbrev pub place_fault : OrderFault → PlaceFault
+place_fault orders.BadOrder = places.BadOrder
+place_fault orders.TooFar = places.TooFar
+place_fault orders.Expired = places.Expired
+place_fault orders.AlreadyFilled = places.AlreadyFilled
 
--- the step is refused with this number
-abbrev pub IsRefusal : {A : Type 0} → Result A Refusal → ℕ → Type 0
-IsRefusal step number = step ≡ Err (refusal number)
+-- the step is refused for the cause; where there is none, memory was short, which may be at any time
+abbrev pub IsRefused : {A : Type 0} → Result A Refusal → Option Told → Type 0
+IsRefused step None = Unit {0}
+IsRefused step (Some cause) = step ≡ Err (record { number = cause.number; value = cause.value })
 
--- why the order is not placed; memory may be short at any time
+-- an order is not placed for the fault
 abbrev pub PlaceRefused : {A : Type 0} → Result A Refusal → PlaceFault → Type 0
-PlaceRefused step places.NoMemory = Unit {0}
-PlaceRefused step fault = IsRefusal step (place_number fault)
+PlaceRefused step fault = IsRefused step (place_cause fault)
 
--- why no block is proposed; memory may be short at any time
+-- an order is not cancelled for the fault
+abbrev pub CancelRefused : {A : Type 0} → Result A Refusal → CancelFault → Type 0
+CancelRefused step fault = IsRefused step (cancel_cause fault)
+
+-- a price is not fed for the fault
+abbrev pub FeedRefused : {A : Type 0} → Result A Refusal → FeedFault → Type 0
+FeedRefused step fault = IsRefused step (Some (feed_cause fault))
+
+-- no block is proposed for the fault
 abbrev pub ProposeRefused : {A : Type 0} → Result A Refusal → ProposeFault → Type 0
-ProposeRefused step proposals.NoMemory = Unit {0}
-ProposeRefused step fault = IsRefusal step (propose_number fault)
-
--- why a block is not committed: its first bad part, unless there was no memory
-abbrev pub CommitRefused : {A : Type 0} → Result A BadPart → CommitFault → Type 0
-CommitRefused step commits.NoMemory = Unit {0}
-CommitRefused step (commits.Bad part) = step ≡ Err part
+ProposeRefused step fault = IsRefused step (propose_cause fault)

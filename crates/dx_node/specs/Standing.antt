@@ -1,21 +1,28 @@
 -- The plain nodes that a node stands for: they are computed again from their blocks each time.
-use Rattle.std.specs.Prelude.{◌≡◌, [], Result, Ok, Err}
-use Rattle.std.specs.FinMap.{empty}
+use Rattle.std.specs.Prelude.{◌≡◌, Result, Ok, Err}
 use Rattle.dx_spec.specs.Blocks.{fold_from}
-use Rattle.dx_node_spec.specs.Node.{Node}
+use Rattle.dx_node_spec.specs.Node.{Node, committed, speculative}
 use Rattle.dx_node.specs.Held.{Held}
 
--- the node has the state to which the blocks lead, all of which are good, the same queue, book and fed prices, and nothing that is not kept yet; that its speculative state is what the queue leads to is kept by its type
+-- the parts of a plain node, with both states computed from its blocks and its queue
+abbrev pub held_of : Node → Held
+held_of p = record {
+  number = p.number;
+  committed = committed p;
+  speculative = speculative p;
+  queue = p.queue;
+  book = p.book;
+  cancels = p.cancels;
+  pool = p.pool;
+  feed = p.feed;
+  again = p.again;
+}
+
+-- the node has the parts of the plain node, all of whose blocks are good on its genesis
 pub record StandsFor (h : Held) (p : Node) : Type 0 where
-  pub number : h.number ≡ p.number
-  pub genesis : h.committed.genesis ≡ p.genesis
   pub folded : fold_from p.base p.blocks ≡ Ok h.committed
-  pub queue : h.queue ≡ p.queue
-  pub book : h.book ≡ p.book
-  pub feed : h.feed ≡ p.feed
-  pub cancels : p.cancels ≡ empty
-  pub pool : p.pool ≡ []
-  pub again : p.again ≡ []
+  pub genesis : h.committed.genesis ≡ p.genesis
+  pub parts : h ≡ held_of p
 
 -- the step is good, and the node stands for the plain node after it
 abbrev pub LeadsTo : {E : Type 0} → Held → Result Node E → Type 0

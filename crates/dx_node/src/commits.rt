@@ -2,12 +2,10 @@
 
 ghost use Rattle.std.specs.Prelude.{◌≡◌, Ok, IfOk, IfErr};
 ghost use Rattle.dx_spec.specs.Blocks.{block_step};
-ghost use Rattle.dx_rules.specs.Built.{IsBuilt};
 ghost use Rattle.dx_rules.specs.Settled.{IsSettled};
-ghost use Rattle.dx_node.specs.Faults.{CommitRefused};
+ghost use Rattle.dx_operations.specs.Faults.{Refuses};
 
-use crate::faults::CommitFault;
-use dx_rules::apply_block;
+use dx_rules::{BlockFault, apply_block};
 use dx_state::PlainState;
 use dx_types::{Block, List};
 use std::alloc::Global;
@@ -23,16 +21,15 @@ pub(crate) struct After {
     pub(crate) results: List<u32>,
 }
 
-/// Applies a block to a copy of a state.
+/// Applies a block to a copy of a state, which a node then adopts.
 ///
 /// `Bad` with the block's first bad part; `NoMemory` where there is none.
-pub(crate) fn apply(alloc: Global, state: &PlainState, block: &Block) -> Result<After, CommitFault>
+pub(crate) fn apply(alloc: Global, state: &PlainState, block: &Block) -> Result<After, BlockFault>
     requires settled { IsSettled state.now }
-    requires built { IsBuilt block.now }
     ensures ok { IfOk result (λ after. block_step state.now block.now ≡ Ok (after.committed, after.results)) }
     ensures settled { IfOk result (λ after. IsSettled after.committed) }
     ensures same { IfOk result (λ after. after.speculative ≡ after.committed) }
-    ensures refused { IfErr result (λ fault. CommitRefused (block_step state.now block.now) fault) }
+    ensures refused { IfErr result (λ fault. Refuses fault (block_step state.now block.now)) }
 {
     let mut committed = state.try_clone()?;
     let results = apply_block(alloc, &mut committed, block)?;

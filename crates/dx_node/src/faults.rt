@@ -1,10 +1,11 @@
 //! Why a call of a node is refused.
 
 ghost use Rattle.std.specs.Prelude.{◌≡◌};
-ghost use Rattle.dx_node.specs.Faults.{place_number, feed_number, propose_number, commit_fault};
+ghost use Rattle.dx_node.specs.Faults.{place_cause, cancel_cause, feed_cause, propose_cause};
 
-use dx_operations::BlockFault;
-use dx_types::{Bad, NoMemory};
+use crate::refusal::{Refusal, cause, cause_until};
+use dx_orders::OrderFault;
+use dx_types::NoMemory;
 use thiserror::Error;
 
 /// Why an order is not placed ("Placing" in docs/RULES.md).
@@ -20,12 +21,18 @@ pub enum PlaceFault {
     /// Its last height is past.
     #[error("the order has expired")]
     Expired,
-    /// An order of its id rests or is placed.
-    #[error("an order of the id rests or is placed")]
+    /// An order of its id rests, or is placed in the queue, and it is not newer than that.
+    #[error("the order is not newer than the one of its id")]
     NotNewer,
     /// Less than one step of its market is left of it.
     #[error("the order is filled")]
     AlreadyFilled,
+    /// A cancel of its id is kept that it does not outlive.
+    #[error("the order is cancelled up to height {until}")]
+    Cancelled {
+        /// The height up to which the cancel stands.
+        until: u32,
+    },
     /// It only rests, and it would be filled.
     #[error("the order only rests, and would be filled")]
     PostOnlyCross,
@@ -41,20 +48,21 @@ pub enum PlaceFault {
 }
 
 impl PlaceFault {
-    /// The number by which a node refuses the order ("Placing" in docs/RULES.md); 0 for `NoMemory`.
-    pub fn number(&self) -> u32
-        ensures { result ≡ place_number self.now }
+    /// The refusal of the order ("Placing" in docs/RULES.md); none for `NoMemory`.
+    pub fn refusal(&self) -> Option<Refusal>
+        ensures { result ≡ place_cause self.now }
     {
         match self {
-            PlaceFault::BadOrder => 1,
-            PlaceFault::TooFar => 2,
-            PlaceFault::Expired => 3,
-            PlaceFault::NotNewer => 4,
-            PlaceFault::AlreadyFilled => 5,
-            PlaceFault::PostOnlyCross => 7,
-            PlaceFault::BookFull => 8,
-            PlaceFault::QueueFull => 9,
-            PlaceFault::NoMemory => 0,
+            PlaceFault::BadOrder => Some(cause(1)),
+            PlaceFault::TooFar => Some(cause(2)),
+            PlaceFault::Expired => Some(cause(3)),
+            PlaceFault::NotNewer => Some(cause(4)),
+            PlaceFault::AlreadyFilled => Some(cause(5)),
+            PlaceFault::Cancelled { until } => Some(cause_until(6, *until)),
+            PlaceFault::PostOnlyCross => Some(cause(7)),
+            PlaceFault::BookFull => Some(cause(8)),
+            PlaceFault::QueueFull => Some(cause(9)),
+            PlaceFault::NoMemory => None,
         }
     }
 }
@@ -66,6 +74,65 @@ impl From<NoMemory> for PlaceFault {
 
     fn from(_refused: NoMemory) -> PlaceFault {
         PlaceFault::NoMemory
+    }
+}
+
+impl From<OrderFault> for PlaceFault {
+    ghost use Rattle.dx_node.specs.Faults.{place_fault};
+
+    ghost from_gives = { λ refused fault. fault ≡ place_fault refused };
+
+    fn from(refused: OrderFault) -> PlaceFault {
+        match refused {
+            OrderFault::BadOrder => PlaceFault::BadOrder,
+            OrderFault::TooFar => PlaceFault::TooFar,
+            OrderFault::Expired => PlaceFault::Expired,
+            OrderFault::AlreadyFilled => PlaceFault::AlreadyFilled,
+        }
+    }
+}
+
+/// Why an order is not cancelled ("Cancelling" in docs/RULES.md).
+#[derive(Clone, Copy, Debug, PartialEq, Eq, Error)]
+pub enum CancelFault {
+    /// The height is not from the next one to 20 later.
+    #[error("no cancel may end at this height")]
+    BadUntil,
+    /// A cancel of the id is kept that stands as long.
+    #[error("a cancel is kept up to height {kept}")]
+    NotNewer {
+        /// The height up to which the kept cancel stands.
+        kept: u32,
+    },
+    /// More than 65,536 cancels would be kept.
+    #[error("no more cancels may be kept")]
+    CancelsFull,
+    /// There was no memory.
+    #[error("out of memory")]
+    NoMemory,
+}
+
+impl CancelFault {
+    /// The refusal of the cancel ("Cancelling" in docs/RULES.md); none for `NoMemory`.
+    pub fn refusal(&self) -> Option<Refusal>
+        ensures { result ≡ cancel_cause self.now }
+    {
+        match self {
+            CancelFault::BadUntil => Some(cause(1)),
+            CancelFault::NotNewer { kept } => Some(cause_until(2, *kept)),
+            CancelFault::CancelsFull => Some(cause(3)),
+            CancelFault::NoMemory => None,
+        }
+    }
+}
+
+impl From<NoMemory> for CancelFault {
+    ghost use Rattle.dx_node.specs.declared.faults.CancelFault.TheVariants.{NoMemory as MemoryFault};
+
+    ghost from_gives = { λ _ fault. fault ≡ MemoryFault };
+
+    fn from(_refused: NoMemory) -> CancelFault {
+        CancelFault::NoMemory
     }
 }
 
@@ -81,13 +148,13 @@ pub enum FeedFault {
 }
 
 impl FeedFault {
-    /// The number of the refusal: 1 or 2 in the order of the causes.
-    pub fn number(&self) -> u32
-        ensures { result ≡ feed_number self.now }
+    /// The refusal of the price ("Fed prices" in docs/RULES.md).
+    pub fn refusal(&self) -> Refusal
+        ensures { result ≡ feed_cause self.now }
     {
         match self {
-            FeedFault::NoMarket => 1,
-            FeedFault::BadPrice => 2,
+            FeedFault::NoMarket => cause(1),
+            FeedFault::BadPrice => cause(2),
         }
     }
 }
@@ -107,14 +174,14 @@ pub enum ProposeFault {
 }
 
 impl ProposeFault {
-    /// The number of the refusal: 1 or 2 in the order of the causes; 0 for `NoMemory`.
-    pub fn number(&self) -> u32
-        ensures { result ≡ propose_number self.now }
+    /// The refusal of the proposal ("Proposal" in docs/RULES.md); none for `NoMemory`.
+    pub fn refusal(&self) -> Option<Refusal>
+        ensures { result ≡ propose_cause self.now }
     {
         match self {
-            ProposeFault::WrongTime => 1,
-            ProposeFault::LastHeight => 2,
-            ProposeFault::NoMemory => 0,
+            ProposeFault::WrongTime => Some(cause(1)),
+            ProposeFault::LastHeight => Some(cause(2)),
+            ProposeFault::NoMemory => None,
         }
     }
 }
@@ -126,39 +193,5 @@ impl From<NoMemory> for ProposeFault {
 
     fn from(_refused: NoMemory) -> ProposeFault {
         ProposeFault::NoMemory
-    }
-}
-
-/// Why a block is not committed.
-#[derive(Clone, Copy, Debug, PartialEq, Eq, Error)]
-pub enum CommitFault {
-    /// The first bad part of the block ("Block" in docs/RULES.md).
-    #[error("a bad part")]
-    Bad(Bad),
-    /// There was no memory.
-    #[error("out of memory")]
-    NoMemory,
-}
-
-impl From<NoMemory> for CommitFault {
-    ghost use Rattle.dx_node.specs.declared.faults.CommitFault.TheVariants.{NoMemory as MemoryFault};
-
-    ghost from_gives = { λ _ fault. fault ≡ MemoryFault };
-
-    fn from(_refused: NoMemory) -> CommitFault {
-        CommitFault::NoMemory
-    }
-}
-
-impl From<BlockFault> for CommitFault {
-    ghost use Rattle.dx_node.specs.Faults.{commit_fault};
-
-    ghost from_gives = { λ refused fault. fault ≡ commit_fault refused };
-
-    fn from(refused: BlockFault) -> CommitFault {
-        match refused {
-            BlockFault::Bad(part) => CommitFault::Bad(part),
-            BlockFault::NoMemory => CommitFault::NoMemory,
-        }
     }
 }

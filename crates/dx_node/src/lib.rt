@@ -9,10 +9,12 @@
 //! What a node tells of its committed state is the fold of its blocks, whatever it matched before
 //! ([`committed_stays`]). [`Node::check`] and each refused call leave all of it as it was. The reads of what is not
 //! committed are of the state after the queue, and what [`Node::propose`] answers is good on the node's own blocks.
-//! What a node does so far is `specs/Stage`: it keeps no cancels, no messages and no votes, and after a
+//! What a node does so far is `specs/Stage` where it is not the whole rules: it keeps no messages, and after a
 //! block it places nothing again.
 #![tactic(auto)]
 
+mod cancelling;
+mod cancels;
 mod checks;
 mod commits;
 mod faults;
@@ -23,11 +25,14 @@ mod placed;
 mod prices;
 mod proposing;
 mod reads;
+mod refusal;
 #[cfg(test)]
 mod tests;
 mod trades;
+mod votes;
 
-pub use faults::{CommitFault, FeedFault, PlaceFault, ProposeFault};
-pub use laws::committed_stays;
+pub use faults::{CancelFault, FeedFault, PlaceFault, ProposeFault};
+pub use laws::{cancelling_stays, committed_stays, emptied_is_faithful};
 pub use node::Node;
 pub use placed::Placed;
+pub use refusal::Refusal;

@@ -1,32 +1,35 @@
 //! A node, and its calls.
 
-ghost use Rattle.std.specs.Prelude.{◌≡◌, ◌+◌, ◌<◌, ◌≤◌, Ok, OnOk, IfOk, IfErr, OnErr, IsOk};
-ghost use Rattle.dx_types.specs.declared.Order.{Order as AnyOrder};
-ghost use Rattle.dx_spec.specs.State.{State};
-ghost use Rattle.dx_spec.specs.Operations.{ops_step};
+ghost use Rattle.std.specs.Prelude.{◌≡◌, ◌+◌, [], Ok, OnOk, IfOk, IfErr, OnErr, IsOk};
 ghost use Rattle.dx_spec.specs.Blocks.{block_step};
 ghost use Rattle.dx_spec.specs.Genesis.{IsGenesis};
 ghost use Rattle.dx_spec.specs.Audits.{audit as audit_of};
 ghost use Rattle.dx_operations.specs.Faults.{Refuses};
-ghost use Rattle.dx_rules.specs.Built.{IsBuilt};
-ghost use Rattle.dx_node_spec.specs.Node.{Node as PlainNode, new_node, next_height, committed as committed_of, speculative as speculative_of};
-ghost use Rattle.dx_node_spec.specs.Events.{fed};
+ghost use Rattle.dx_node_spec.specs.Node.{Node as PlainNode, new_node, committed as committed_of};
+ghost use Rattle.dx_node_spec.specs.Placing.{place as placed_with};
+ghost use Rattle.dx_node_spec.specs.Events.{fed, cancel as cancelled_with, cancel_all as all_cancelled_with};
+ghost use Rattle.dx_node_spec.specs.Proposals.{proposal_at, propose as proposed};
 ghost use Rattle.dx_node_spec.specs.Reads as tells;
 ghost use Rattle.dx_speculation.specs.Faithful.{IsGoodBlock};
 ghost use Rattle.dx_node.specs.Short.{IsShort};
-ghost use Rattle.dx_node.specs.Stage.{commit as committed_with, propose as proposal, place as placed_with};
-ghost use Rattle.dx_node.specs.Stages.{proposed, outcome_of};
+ghost use Rattle.dx_node.specs.Stage.{commit as committed_with};
+ghost use Rattle.dx_node.specs.Trades.{outcome_of};
 ghost use Rattle.dx_node.specs.Standing.{StandsFor, LeadsTo, Gives};
-ghost use Rattle.dx_node.specs.Faults.{feed_number, IsRefusal, PlaceRefused, ProposeRefused, CommitRefused};
+ghost use Rattle.dx_node.specs.Faults.{FeedRefused, PlaceRefused, ProposeRefused, CancelRefused};
 
+use crate::cancelling::{
+    MOST_CANCELS, check_cancel, count, end_all, end_order, orders_of, with_ends,
+};
+use crate::cancels::Cancels;
 use crate::checks::check_place;
 use crate::commits::{After, apply};
-use crate::faults::{CommitFault, FeedFault, PlaceFault, ProposeFault};
+use crate::faults::{CancelFault, FeedFault, PlaceFault, ProposeFault};
 use crate::feed::Feed;
 use crate::placed::Placed;
 use crate::proposing::check_time;
 use crate::reads::{best_of, has_market};
-use crate::trades::{settle, take};
+use crate::trades::{make_room, settle, take};
+use crate::votes::votes;
 use dx_book::Book;
 use dx_ledger::Ledger;
 use dx_queue::Queue;
@@ -37,8 +40,8 @@ use dx_types::{Account, Audit, Block, Genesis, List, NoMemory, Order, OrderId, S
 use std::alloc::Global;
 use std::marker::Model;
 
-/// A node: the states after its blocks and after its queue, its queue, its book and its fed prices. Contracts
-/// see them as a record, and the plain nodes that stand for the same.
+/// A node: the states after its blocks and after its queue, its queue, its book, its cancels and its fed prices.
+/// Contracts see all that a plain node has, and the plain nodes that have the same.
 #[derive(Drop)]
 pub struct Node {
     number: u32,
@@ -46,26 +49,20 @@ pub struct Node {
     speculative: PlainState,
     queue: Queue,
     book: Book,
+    cancels: Cancels,
     feed: Feed,
 }
 
 impl Model for Node {
-    ghost use Rattle.dx_node.specs.Held.{Held, coded_held, IsKept};
+    ghost use Rattle.dx_node.specs.Held.{Held, coded_held, held, IsKept};
 
     ghost Value = { Held };
 
     ghost coded = { coded_held };
 
-    ghost view = { λ n. record {
-      number = n.number;
-      committed = n.committed;
-      speculative = n.speculative;
-      queue = n.queue;
-      book = n.book.orders;
-      feed = n.feed;
-    } };
+    ghost view = { λ n. held n.number n.committed n.speculative n.queue n.book.orders n.cancels n.feed };
 
-    ghost invariant = { λ n. IsKept n.committed n.speculative n.queue n.book.orders };
+    ghost invariant = { λ n. IsKept (held n.number n.committed n.speculative n.queue n.book.orders n.cancels n.feed) };
 }
 
 impl Node {
@@ -83,6 +80,7 @@ impl Node {
             speculative,
             queue: Queue::new(alloc),
             book: Book::new(alloc),
+            cancels: Cancels::new(alloc),
             feed: Feed::new(),
         })
     }
@@ -156,9 +154,10 @@ impl Node {
     ///
     /// `Bad` with the block's first bad part; `NoMemory` where there is none.
     pub fn check(&mut self, block: &Block) -> Result<(), BlockFault>
-        requires { IsBuilt block.now }
-        ensures ok { OnOk result ((p : PlainNode) → StandsFor self.old p → IsOk (block_step (committed_of p) block.now)) }
-        ensures refused { IfErr result (λ fault. (p : PlainNode) → StandsFor self.old p → Refuses fault (block_step (committed_of p) block.now)) }
+        ensures ok { OnOk result ((p : PlainNode) → StandsFor self.old p
+            → IsOk (block_step (committed_of p) block.now)) }
+        ensures refused { IfErr result (λ fault. (p : PlainNode) → StandsFor self.old p
+            → Refuses fault (block_step (committed_of p) block.now)) }
         ensures same { self.new ≡ self.old }
     {
         let alloc = self.allocator();
@@ -171,10 +170,11 @@ impl Node {
     ///
     /// `Bad` with the block's first bad part, exactly as [`Node::check`] has it; `NoMemory` where there is none.
     /// The node is then as before.
-    pub fn commit(&mut self, block: &Block) -> Result<List<u32>, CommitFault>
-        requires { IsBuilt block.now }
-        ensures ok { IfOk result (λ results. (p : PlainNode) → StandsFor self.old p → Gives self.new results (committed_with p block.now)) }
-        ensures refused { IfErr result (λ fault. (p : PlainNode) → StandsFor self.old p → CommitRefused (committed_with p block.now) fault) }
+    pub fn commit(&mut self, block: &Block) -> Result<List<u32>, BlockFault>
+        ensures ok { IfOk result (λ results. (p : PlainNode) → StandsFor self.old p
+            → Gives self.new results (committed_with p block.now)) }
+        ensures refused { IfErr result (λ fault. (p : PlainNode) → StandsFor self.old p
+            → Refuses fault (committed_with p block.now)) }
         ensures same { OnErr result (self.new ≡ self.old) }
     {
         let alloc = self.allocator();
@@ -197,7 +197,8 @@ impl Node {
     /// The node is then as before.
     pub fn feed(&mut self, market: u32, price: u64) -> Result<(), FeedFault>
         ensures ok { OnOk result ((p : PlainNode) → StandsFor self.old p → LeadsTo self.new (fed p market price)) }
-        ensures refused { IfErr result (λ fault. (p : PlainNode) → StandsFor self.old p → IsRefusal (fed p market price) (feed_number fault)) }
+        ensures refused { IfErr result (λ fault. (p : PlainNode) → StandsFor self.old p
+            → FeedRefused (fed p market price) fault) }
         ensures same { OnErr result (self.new ≡ self.old) }
     {
         if market as usize >= self.committed.genesis().params.markets.len() {
@@ -210,10 +211,12 @@ impl Node {
         Ok(())
     }
 
-    /// The block of a time, whatever that is: the queue as operations, no messages, no votes, and the fed
-    /// prices that the markets may have after the queue. `NoMemory` where there is none for it.
+    /// The block of a time, whatever that is: the queue as operations, no messages, a vote on each market, and
+    /// the fed prices that the markets may have after the queue. `NoMemory` where there is none for it.
+    #[tactic(auto, unfolding(dx_node_spec::specs::Proposals::proposal_at))]
     fn proposal(&self, time: u32) -> Result<Block, NoMemory>
-        ensures is { IfOk result (λ block. block ≡ proposed self.now time) }
+        ensures is { IfOk result (λ block. block ≡ proposal_at (self.now.committed.clock.height + 1)
+            self.now.speculative self.now.queue self.now.book [] self.now.feed time) }
         ensures short { IfOk result IsShort }
     {
         let alloc = self.allocator();
@@ -222,22 +225,24 @@ impl Node {
             time,
             ops: self.queue.ops().try_clone()?,
             msgs: List::new(alloc),
-            votes: List::new(alloc),
+            votes: votes(alloc, &self.speculative, &self.book)?,
             prices: self.feed.allowed(alloc, &self.speculative)?,
         })
     }
 
-    /// The block that the node proposes at a time: its queue as operations, and by market each fed price that
-    /// the market may have after the queue ("Proposal" in docs/RULES.md). It has no messages and no votes yet.
-    /// It is good on the state after the node's blocks, and none of its lists passes its limit.
+    /// The block that the node proposes at a time: its queue as operations, its vote on each market by number,
+    /// and by market each fed price that the market may have after the queue ("Proposal" and "Premium vote of a
+    /// node" in docs/RULES.md). It has no messages yet. It is good on the state after the node's blocks, and none
+    /// of its lists passes its limit.
     ///
     /// `WrongTime` exactly where the time is not past the committed one, or past 4,000,000,000; `LastHeight`
     /// exactly at the height 4,000,000,000; `NoMemory` where there is none for the block.
     pub fn propose(&self, time: u32) -> Result<Block, ProposeFault>
-        ensures ok { IfOk result (λ block. (p : PlainNode) → StandsFor self.now p → proposal p time ≡ Ok block) }
-        ensures refused { IfErr result (λ fault. (p : PlainNode) → StandsFor self.now p → ProposeRefused (proposal p time) fault) }
-        ensures good { IfOk result (λ block. (p : PlainNode) → StandsFor self.now p → IsGoodBlock (committed_of p) block) }
-        ensures built { IfOk result IsBuilt }
+        ensures ok { IfOk result (λ block. (p : PlainNode) → StandsFor self.now p → proposed p time ≡ Ok block) }
+        ensures refused { IfErr result (λ fault. (p : PlainNode) → StandsFor self.now p
+            → ProposeRefused (proposed p time) fault) }
+        ensures good { IfOk result (λ block. (p : PlainNode) → StandsFor self.now p
+            → IsGoodBlock (committed_of p) block) }
         ensures short { IfOk result IsShort }
     {
         check_time(self.committed.clock(), time)?;
@@ -255,33 +260,75 @@ impl Node {
     }
 
     /// Places a short-term order: it takes what the book offers, the queue gets what it took, and the rest of
-    /// it goes where its kind says ("Placing", "Taking" and "What the queue gets" in docs/RULES.md). An order of
-    /// its id that rests or is placed is not replaced yet.
+    /// it goes where its kind says ("Placing", "Taking" and "What the queue gets" in docs/RULES.md). The resting
+    /// order of its id leaves.
     ///
-    /// The faults are the first of these that holds: `BadOrder`, `TooFar`, `Expired`, `NotNewer`,
-    /// `AlreadyFilled`, `PostOnlyCross`, and after the taking `BookFull` or `QueueFull`; `NoMemory` at any
-    /// point. The node is then as before.
+    /// The faults are the first of these that holds: `BadOrder`, `TooFar`, `Expired`, `NotNewer` exactly where the
+    /// resting or the last placed order of its id is not older, `AlreadyFilled`, `Cancelled`, `PostOnlyCross`, and
+    /// after the taking `QueueFull` or `BookFull`; `NoMemory` at any point. The node is then as before.
     pub fn place(&mut self, o: &Order) -> Result<Placed, PlaceFault>
-        ensures ok { IfOk result (λ placed. (p : PlainNode) → StandsFor self.old p → Gives self.new (outcome_of placed) (placed_with p o.now)) }
-        ensures refused { IfErr result (λ fault. (p : PlainNode) → StandsFor self.old p → PlaceRefused (placed_with p o.now) fault) }
+        ensures ok { IfOk result (λ placed. (p : PlainNode) → StandsFor self.old p
+            → Gives self.new (outcome_of placed) (placed_with p o.now)) }
+        ensures refused { IfErr result (λ fault. (p : PlainNode) → StandsFor self.old p
+            → PlaceRefused (placed_with p o.now) fault) }
         ensures same { OnErr result (self.new ≡ self.old) }
     {
         let alloc = self.allocator();
         let height = self.next_height();
-        check_place(&self.speculative, &self.book, &self.queue, height, o)?;
-        if self.book.reserve().is_err() {
-            return Err(PlaceFault::NoMemory);
+        check_place(
+            &self.speculative,
+            height,
+            &self.queue,
+            &self.book,
+            &self.cancels,
+            o,
+        )?;
+        make_room(&mut self.book)?;
+        let trade = take(alloc, &mut self.speculative, &self.book, &mut self.queue, o)?;
+        settle(&mut self.book, o, &trade);
+        Ok(trade.placed)
+    }
+
+    /// Cancels an order of an id: the cancel is kept, also where no such order rests, and no order of the id that
+    /// ends by its height is placed. The resting order of the id leaves where it ends by then; the answer says
+    /// whether it did ("Cancelling" in docs/RULES.md).
+    ///
+    /// The faults are the first of these that holds: `BadUntil` exactly where the height is not from the next one to
+    /// 20 later, `NotNewer` exactly where a kept cancel of the id stands as long, `CancelsFull` exactly where none of
+    /// the id is kept and 65,536 are; `NoMemory` at any point. The node is then as before.
+    pub fn cancel(&mut self, id: &OrderId, until: u32) -> Result<bool, CancelFault>
+        ensures ok { IfOk result (λ ended. (p : PlainNode) → StandsFor self.old p
+            → Gives self.new ended (cancelled_with p id.now until)) }
+        ensures refused { IfErr result (λ fault. (p : PlainNode) → StandsFor self.old p
+            → CancelRefused (cancelled_with p id.now until) fault) }
+        ensures same { OnErr result (self.new ≡ self.old) }
+    {
+        let height = self.next_height();
+        check_cancel(height, &self.cancels, id, until)?;
+        self.cancels.keep(id, until)?;
+        Ok(end_order(&mut self.book, id, until))
+    }
+
+    /// Cancels each resting short-term order of an account with its own last height, and tells how many
+    /// ("Cancelling" in docs/RULES.md). Each leaves the book.
+    ///
+    /// `CancelsFull` exactly where more than 65,536 cancels would be kept; `NoMemory` where there is none. The node
+    /// is then as before.
+    pub fn cancel_all(&mut self, who: SubaccountId) -> Result<u32, CancelFault>
+        ensures ok { IfOk result (λ count. (p : PlainNode) → StandsFor self.old p
+            → Gives self.new count (all_cancelled_with p who)) }
+        ensures refused { IfErr result (λ fault. (p : PlainNode) → StandsFor self.old p
+            → CancelRefused (all_cancelled_with p who) fault) }
+        ensures same { OnErr result (self.new ≡ self.old) }
+    {
+        let alloc = self.allocator();
+        let orders = orders_of(alloc, &self.book, who)?;
+        let cancels = with_ends(&self.cancels, orders.as_slice())?;
+        if cancels.len() > MOST_CANCELS {
+            return Err(CancelFault::CancelsFull);
         }
-        let before = self.speculative.try_clone()?;
-        match take(alloc, &mut self.speculative, &self.book, &mut self.queue, o) {
-            Ok(trade) => {
-                settle(&mut self.book, o, &trade);
-                Ok(trade.placed)
-            }
-            Err(fault) => {
-                self.speculative = before;
-                Err(fault)
-            }
-        }
+        self.cancels = cancels;
+        end_all(&mut self.book, orders.as_slice());
+        Ok(count(&orders))
     }
 }

@@ -2,10 +2,10 @@
 
 ghost use Rattle.std.specs.Prelude.{◌≤◌, IfOk};
 ghost use Rattle.dx_spec.specs.Genesis.{IsGenesis};
-ghost use Rattle.dx_rules.specs.Built.{IsBuilt};
 
 use crate::proposing::check_time;
-use crate::{CommitFault, FeedFault, Node, PlaceFault, Placed, ProposeFault};
+use crate::{CancelFault, FeedFault, Node, PlaceFault, Placed, ProposeFault, Refusal};
+use dx_rules::BlockFault;
 use dx_types::{
     Block, Clock, Genesis, Kind, List, MarketParams, Msg, NoMemory, Order, OrderId, Params,
     SubaccountId,
@@ -57,9 +57,7 @@ fn genesis(alloc: Global) -> Result<Genesis, NoMemory>
 }
 
 // A first block in which accounts 1 and 2 pay in.
-fn deposits(alloc: Global) -> Result<Block, NoMemory>
-    ensures { IfOk result IsBuilt }
-{
+fn deposits(alloc: Global) -> Result<Block, NoMemory> {
     let mut msgs = List::new(alloc);
     msgs.push(Msg::Deposit {
         who: account_id(1),
@@ -103,25 +101,66 @@ fn fund(alloc: Global, node: &mut Node) -> Result<List<u32>, Fail> {
     Ok(node.commit(&block)?)
 }
 
-// What a placing answers by its number, 0 where the order is not refused.
-fn refusal_of(placed: Result<Placed, PlaceFault>) -> u32 {
+// The refusal of a placing, if it is refused.
+fn refusal_of(placed: Result<Placed, PlaceFault>) -> Option<Refusal> {
     match placed {
-        Ok(_) => 0,
-        Err(fault) => fault.number(),
+        Ok(_) => None,
+        Err(fault) => fault.refusal(),
     }
 }
 
-// A sale rests, a second one of its id and one that only rests are refused, and a purchase is filled.
+// A refusal by its number alone.
+fn cause(number: u32) -> Option<Refusal> {
+    Some(Refusal {
+        number,
+        value: None,
+    })
+}
+
+// A sale rests, and its like and an order that only rests are refused; a newer one of its id takes its place, and a
+// purchase is filled.
 fn trade(rt: &impl Abort, node: &mut Node) -> Result<(), Fail> {
     let maker = order(1, false, 2, Kind::Gtc);
     assert!(rt; node.place(&maker)? == Placed::Rested { filled: 0 });
     assert!(rt; node.best(0) == Some([0, 0, SUBTICKS, 2 * STEP]));
-    assert!(rt; refusal_of(node.place(&maker)) == 4);
-    assert!(rt; refusal_of(node.place(&order(2, true, 1, Kind::PostOnly))) == 7);
+    assert!(rt; refusal_of(node.place(&maker)) == cause(4));
+    assert!(rt; node.place(&Order { until: 6, ..maker })? == Placed::Rested { filled: 0 });
+    assert!(rt; refusal_of(node.place(&order(2, true, 1, Kind::PostOnly))) == cause(7));
     assert!(rt; node.place(&order(2, true, 1, Kind::Gtc))? == Placed::Filled);
     assert!(rt; node.filled(&maker.id) == (0, STEP));
     assert!(rt; node.best(0) == Some([0, 0, SUBTICKS, STEP]));
     assert!(rt; node.best(1).is_none());
+    Ok(())
+}
+
+// The refusal of a cancel, if it is refused.
+fn cancel_refusal(cancelled: Result<bool, CancelFault>) -> Option<Refusal> {
+    match cancelled {
+        Ok(_) => None,
+        Err(fault) => fault.refusal(),
+    }
+}
+
+// A cancel that the sale outlives, its like, the cancel of all, and an order that comes after its cancel.
+fn cancel(rt: &impl Abort, node: &mut Node) -> Result<(), Fail> {
+    let id = order(1, false, 1, Kind::Gtc).id;
+    assert!(rt; cancel_refusal(node.cancel(&id, 1)) == cause(1));
+    assert!(rt; !node.cancel(&id, 5)?);
+    let kept = Refusal {
+        number: 2,
+        value: Some(5),
+    };
+    assert!(rt; cancel_refusal(node.cancel(&id, 5)) == Some(kept));
+    assert!(rt; node.cancel_all(account_id(1))? == 1);
+    assert!(rt; node.best(0) == Some([0, 0, 0, 0]));
+    let mut late = order(2, true, 1, Kind::Gtc);
+    late.id.client = 2;
+    assert!(rt; !node.cancel(&late.id, 5)?);
+    let cancelled = Refusal {
+        number: 6,
+        value: Some(5),
+    };
+    assert!(rt; refusal_of(node.place(&late)) == Some(cancelled));
     Ok(())
 }
 
@@ -133,19 +172,25 @@ fn feed(rt: &impl Abort, node: &mut Node) -> Result<(), Fail> {
     Ok(())
 }
 
-// What a node proposes is good and is committed: the numbers of its operations and prices, and of results.
-fn propose(node: &mut Node) -> Result<(usize, usize, usize), Fail> {
+// What a node proposes is good and is committed: the numbers of its operations, votes and prices, and of
+// results.
+fn propose(node: &mut Node) -> Result<(usize, usize, usize, usize), Fail> {
     let block = node.propose(161)?;
     node.check(&block)?;
     let results = node.commit(&block)?;
-    Ok((block.ops.len(), block.prices.len(), results.len()))
+    Ok((
+        block.ops.len(),
+        block.votes.len(),
+        block.prices.len(),
+        results.len(),
+    ))
 }
 
 // The code of the block that was committed before.
 fn code_of_repeat(alloc: Global, node: &mut Node) -> Result<u32, Fail> {
     let block = deposits(alloc)?;
     match node.commit(&block) {
-        Err(CommitFault::Bad(bad)) => Ok(bad.code),
+        Err(BlockFault::Bad(bad)) => Ok(bad.code),
         _ => Ok(0),
     }
 }
@@ -155,9 +200,10 @@ fn live(rt: &impl Abort, alloc: Global, node: &mut Node) -> Result<(), Fail> {
     let results = fund(alloc, node)?;
     assert!(rt; results.as_slice() == [0, 0].as_slice());
     trade(rt, node)?;
+    cancel(rt, node)?;
     feed(rt, node)?;
     assert!(rt; node.speculative_account(account_id(1)) != node.committed_account(account_id(1)));
-    assert!(rt; propose(node)? == (3, 1, 0));
+    assert!(rt; propose(node)? == (3, 1, 1, 0));
     assert!(rt; node.speculative_account(account_id(1)) == node.committed_account(account_id(1)));
     assert!(rt; code_of_repeat(alloc, node)? == 26);
     assert!(rt; node.height() == 2 && node.number() == 3 && node.audit().paid_in == 2_000_000_007);

@@ -1,13 +1,18 @@
-use Rattle.std.proofs.Common.{◌≡◌, true, false, length, nat_lt, sym, ◌∙◌}
-use Rattle.dx_node.proofs.Plain.{told_none, told_some}
+use Rattle.std.proofs.Common.{◌≡◌, true, false, None, Some, [], ◌∷◌, length, nat_lt, sym, ◌∙◌}
+use Rattle.dx_node_spec.specs.Reads.{best_in}
+use Rattle.dx_node.proofs.Plain.{told, no_best, some_best}
 use Rattle.dx_node.proofs.node.Node.best.Goals as goal
 
 pub returns-then-not-has_market : goal.returns-then-not-has_market
 returns-then-not-has_market c =
     let unknown : nat_lt c.args.market (length c.self.inside.committed.markets) ≡ false = sym c.has_market.ensures ∙ c.if-not-has_market.true in
-    λ p st. told_none _ c.args.self.now p c.args.market c.self.view_is c.self.invariant unknown st
+    let e = no_best c.self.inside.committed c.self.inside.speculative c.self.inside.book.orders c.args.market unknown in
+    λ p st. told (λ h. best_in h.committed h.speculative h.book c.args.market) _ c.args.self.now p None c.self.view_is e st
 
 pub returns : goal.returns
 returns c =
     let known : nat_lt c.args.market (length c.self.inside.committed.markets) ≡ true = sym c.has_market.ensures ∙ c.if-not-has_market.false in
-    λ p st. told_some _ c.args.self.now p c.args.market c.best_of-bid.result c.best_of-ask.result c.self.view_is c.self.invariant known c.best_of-bid.ensures c.best_of-ask.ensures st
+    let bid = c.best_of-bid.result in
+    let ask = c.best_of-ask.result in
+    let e = some_best c.self.inside.committed c.self.inside.speculative c.self.inside.book.orders c.args.market bid ask known c.best_of-bid.ensures c.best_of-ask.ensures in
+    λ p st. told (λ h. best_in h.committed h.speculative h.book c.args.market) _ c.args.self.now p (Some (bid.0 ∷ bid.1 ∷ ask.0 ∷ ask.1 ∷ [])) c.self.view_is e st

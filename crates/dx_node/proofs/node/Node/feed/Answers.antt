@@ -18,4 +18,4 @@ pub returns-clause-ok : goal.returns-clause-ok
 returns-clause-ok c =
     let known : c.args.market < length c.self.inside.committed.genesis.params.markets = search rules in
     let good : is_price c.args.price ≡ true = search rules in
-    λ p st. fed_good _ c.args.self.now _ p c.args.market c.args.price c.put.new.self c.self.view_is known good refl c.put.ensures st
+    λ p st. fed_good _ c.args.self.now _ p c.args.market c.args.price c.put.new.self c.self.view_is c.self.invariant known good refl c.put.ensures st
