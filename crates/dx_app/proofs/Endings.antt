@@ -1,18 +1,12 @@
 -- What is wrong in the lines of an input, and how its run ends.
 use Rattle.std.proofs.Common.{◌≡◌, ◌<◌, ◌≤◌, ◌+◌, inl, inr, ℕ, zero, suc, Bool, true, false, cond, nat_lt, List, [], ◌∷◌, length, take, slice_get, All, IsNone, is_some, Option, Some, None, Result, Ok, Err, refl, sym, ap, ◌∙◌, arith}
 use Rattle.std.proofs.lemmas.Bool.{le-ltb, lt-ltb, cases_lt}
-use Rattle.std.proofs.lemmas.List.{length-set}
-use Rattle.std.proofs.lemmas.List.FromFn.{length-map-range_with_len}
 use Rattle.std.proofs.lemmas.List.Elements.{All-nil, All-cons, All-head, All-tail}
 use Rattle.dx_types.specs.declared.status.Status.{Status}
 use Rattle.dx_types.specs.declared.status.Status.TheVariants as ends
-use Rattle.dx_scenario.specs.declared.event.Event.{Event}
-use Rattle.dx_scenario.specs.declared.event.Event.TheVariants as events
 use Rattle.dx_scenario.specs.Genesis.{genesis_of}
-use Rattle.dx_node_spec.specs.Node.{Node, new_node}
-use Rattle.dx_print.specs.declared.answer.Answer.{Answer}
-use Rattle.dx_cluster.specs.World.{World, world_of, node_acts, act_at, step}
-use Rattle.dx_cluster.proofs.Keeping.{propose_nodes}
+use Rattle.dx_cluster.specs.World.{World, world_of, step}
+use Rattle.dx_cluster.proofs.Counting.{world_count, step_keeps}
 use Rattle.dx_app.specs.Lines.{longest_line, cut}
 use Rattle.dx_app.specs.Transcript.{Told, line_limit, ended, bad_line, or_bad, event_told, lines_told, genesis_told, scenario_told, scenario, built_event_of}
 use Rattle.dx_app.specs.Causes.{wrong_place, nodes_of, event_faults, line_faults, faults}
@@ -26,22 +20,6 @@ or_wrong n (Some field) rest = ends.BadLine n field
 abbrev pub end_by : ℕ → ℕ → List (Option ℕ) → Status
 end_by limit n [] = ends.Done
 end_by limit n (fault ∷ rest) = cond (nat_lt limit n) ends.Long (or_wrong n fault (end_by limit (suc n) rest))
-
--- a node acts, and there are as many as before
-node_keeps : (w : World) (o : Option Node) (node : ℕ) (act : Node → Node × Answer) → length (node_acts w o node act).0.nodes ≡ length w.nodes
-node_keeps w None node act = refl
-node_keeps w (Some p) node act = length-set w.nodes node (act p).0
-
-act_keeps : (w : World) (node : ℕ) (act : Node → Node × Answer) → length (act_at w node act).0.nodes ≡ length w.nodes
-act_keeps w node act = node_keeps w (slice_get w.nodes node) node act
-
--- whatever happens, there are as many nodes as before
-step_keeps : (w : World) (e : Event) → length (step w e).0.nodes ≡ length w.nodes
-step_keeps w e = elim e as (λ e. length (step w e).0.nodes ≡ length w.nodes) [
-  | events.Handed slot block ↦ refl
-  | events.Propose node slot time ↦ ap length (propose_nodes w (slice_get w.nodes node) slot time)
-  | _ ↦ search act_keeps
-]
 
 -- a line is tested in the order of its faults
 tested : {A : Type 0} (over long : Bool) (n : ℕ) (reading : Result A ℕ) (told : A → Told) (rest : Status) → ((x : A) → reading ≡ Ok x → (told x).status ≡ rest)
@@ -68,7 +46,7 @@ opened_status : (lines : List (List ℕ)) (tail : List ℕ) → (scenario_told l
 opened_status [] tail = refl
 opened_status (line ∷ lines) tail =
     tested false (nat_lt longest_line (length line)) 1 (genesis_of line) (λ first. genesis_told first (λ w. lines_told w 2 lines tail)) (end_by line_limit 2 (event_faults (nodes_of (genesis_of line)) lines tail))
-    (λ first read. later_status (world_of first.0 first.1) 2 lines tail ∙ ap (λ k. end_by line_limit 2 (event_faults k lines tail)) (length-map-range_with_len (λ number. new_node number first.1) 0 first.0 ∙ sym (ap nodes_of read)))
+    (λ first read. later_status (world_of first.0 first.1) 2 lines tail ∙ ap (λ k. end_by line_limit 2 (event_faults k lines tail)) (world_count first.0 first.1 ∙ sym (ap nodes_of read)))
 
 -- the lines of an input end its run by their faults
 pub scenario_status : (input : List ℕ) → (scenario input).status ≡ end_by line_limit 1 (faults input)

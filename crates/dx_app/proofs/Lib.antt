@@ -4,3 +4,6 @@ pub mod Runs
 pub mod Endings
 pub mod Limits
 pub mod Caused
+pub mod Counts
+pub mod Prompt
+pub mod Serving

@@ -79,7 +79,7 @@ not_filled at_hand left = record { got = []; read = consumes_nothing left; joine
 pub no_pieces : (at_hand line : List ℕ) (left : Option (List ℕ)) → line ≡ [] → TakesPieces at_hand at_hand line left left
 no_pieces at_hand line left e = record { got = []; read = consumes_nothing left; joined = append-nil at_hand ∙ ap (λ xs. xs ++ at_hand) (sym e) }
 
-pieces_read : (h0 h1 h2 line : List ℕ) (l0 l1 l2 : Option (List ℕ)) → TakesPieces h0 h1 line l0 l1 → ReadsOn h1 h2 l1 l2 → TakesPieces h0 h2 line l0 l2
+pub pieces_read : (h0 h1 h2 line : List ℕ) (l0 l1 l2 : Option (List ℕ)) → TakesPieces h0 h1 line l0 l1 → ReadsOn h1 h2 l1 l2 → TakesPieces h0 h2 line l0 l2
 pieces_read h0 h1 h2 line l0 l1 l2 p r = record {
   got = p.got ++ r.got;
   read = consumes_then l0 l1 l2 p.got r.got p.read r.read;

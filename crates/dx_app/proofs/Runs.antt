@@ -1,5 +1,5 @@
 -- What a run has written so far, and what it goes on to write.
-use Rattle.std.proofs.Common.{◌≡◌, ◌<◌, ◌≤◌, ◌+◌, ◌⊎◌, inl, inr, ℕ, suc, List, [], ◌∷◌, ◌++◌, length, refl, sym, ap, subst, ◌∙◌, arith, append_assoc, true, false, cond, add-one, length-append, lit<, ◌==◌, MatchBool, Option, Result, Ok, Err}
+use Rattle.std.proofs.Common.{◌≡◌, ◌<◌, ◌≤◌, ◌+◌, ◌⊎◌, inl, inr, ℕ, suc, List, [], ◌∷◌, ◌++◌, length, refl, sym, ap, subst, ◌∙◌, arith, append_assoc, append-nil, true, false, cond, add-one, length-append, lit<, ◌==◌, MatchBool, Option, Result, Ok, Err}
 use Rattle.std.proofs.lemmas.Bool.{le-ltb, lt-ltb}
 use Rattle.std.specs.Io.KnownBytes.{Appends, Keeps, IsAtEnd, Consumes}
 use Rattle.dx_types.specs.declared.Genesis.{Genesis}
@@ -50,37 +50,54 @@ pub reading_fails : (e : ReadError) (s : Status) → EndsReading e s → (s ≡ 
 reading_fails errors.Failed s h = inl h
 reading_fails errors.NoMemory s h = inr h
 
+-- bytes at hand, and then those that were read and a rest, are lines that are answered, and then those at hand and the rest
+pub lines_at_hand : (before at_hand lines got rest : List ℕ) → before ++ got ≡ lines ++ at_hand → before ++ (got ++ rest) ≡ lines ++ (at_hand ++ rest)
+lines_at_hand before at_hand lines got rest e = sym (append_assoc before got rest) ∙ ap (λ xs. xs ++ rest) e ∙ append_assoc lines at_hand rest
+
 -- a run that has gone on ends
-pub run_then : (whole : List ℕ → Told) (at_hand : List ℕ) (l0 l1 w0 w1 w2 : Option (List ℕ)) (c : Cluster) (n : ℕ) (s : Status) → GoesOn whole at_hand l0 l1 w0 w1 c n
-    → ((v : World) → Stands c v → IsRunOf (λ rest. rest_told v n (at_hand ++ rest)) l1 w1 w2 s) → IsRunOf whole l0 w0 w2 s
-run_then whole at_hand l0 l1 w0 w1 w2 c n s g y =
+pub run_then : (whole : List ℕ → Told) (h0 h1 : List ℕ) (l0 l1 w0 w1 w2 : Option (List ℕ)) (c : Cluster) (n : ℕ) (s : Status) → GoesOn whole h0 h1 l0 l1 w0 w1 c n
+    → ((v : World) → Stands c v → IsRunOf (λ rest. rest_told v n (h1 ++ rest)) l1 w1 w2 s) → IsRunOf (λ rest. whole (h0 ++ rest)) l0 w0 w2 s
+run_then whole h0 h1 l0 l1 w0 w1 w2 c n s g y =
     let r = y g.world g.stands in
     record {
       input = g.got ++ r.input;
       is = read_is_input l0 l1 g.got r.input g.read r.is;
-      said = subst (λ t. Says w0 w2 t s) (g.told r.input) (says_after w0 w1 w2 g.out (rest_told g.world n (at_hand ++ r.input)) s g.wrote r.said);
+      said = subst (λ t. Says w0 w2 t s) (g.told (h1 ++ r.input) ∙ ap whole (sym (lines_at_hand h0 h1 g.lines g.got r.input g.joined)))
+          (says_after w0 w1 w2 g.out (rest_told g.world n (h1 ++ r.input)) s g.wrote r.said);
     }
 
 -- a run that has gone on goes on
-pub goes_on_then : (whole : List ℕ → Told) (h1 h2 : List ℕ) (l0 l1 l2 w0 w1 w2 : Option (List ℕ)) (c d : Cluster) (n m : ℕ) → GoesOn whole h1 l0 l1 w0 w1 c n
-    → ((v : World) → Stands c v → GoesOn (λ rest. rest_told v n (h1 ++ rest)) h2 l1 l2 w1 w2 d m) → GoesOn whole h2 l0 l2 w0 w2 d m
-goes_on_then whole h1 h2 l0 l1 l2 w0 w1 w2 c d n m g y =
+pub goes_on_then : (whole : List ℕ → Told) (h0 h1 h2 : List ℕ) (l0 l1 l2 w0 w1 w2 : Option (List ℕ)) (c d : Cluster) (n m : ℕ) → GoesOn whole h0 h1 l0 l1 w0 w1 c n
+    → ((v : World) → Stands c v → GoesOn (rest_told v n) h1 h2 l1 l2 w1 w2 d m) → GoesOn whole h0 h2 l0 l2 w0 w2 d m
+goes_on_then whole h0 h1 h2 l0 l1 l2 w0 w1 w2 c d n m g y =
     let k = y g.world g.stands in
     record {
       world = k.world;
       stands = k.stands;
       got = g.got ++ k.got;
       read = consumes_then l0 l1 l2 g.got k.got g.read k.read;
+      lines = g.lines ++ k.lines;
+      joined = lines_at_hand h0 h1 g.lines g.got k.got g.joined ∙ ap (λ xs. g.lines ++ xs) k.joined ∙ sym (append_assoc g.lines k.lines h2);
       out = g.out ++ k.out;
       wrote = appends_then w0 w1 w2 g.out k.out g.wrote k.wrote;
       told = λ rest.
-          ap (λ (xs : List ℕ). record { bytes = xs; status = (rest_told k.world m (h2 ++ rest)).status }) (append_assoc g.out k.out (rest_told k.world m (h2 ++ rest)).bytes)
-          ∙ ap (told_after g.out) (k.told rest) ∙ g.told (k.got ++ rest) ∙ ap whole (sym (append_assoc g.got k.got rest));
+          ap (λ (xs : List ℕ). record { bytes = xs; status = (rest_told k.world m rest).status }) (append_assoc g.out k.out (rest_told k.world m rest).bytes)
+          ∙ ap (told_after g.out) (k.told rest) ∙ g.told (k.lines ++ rest) ∙ ap whole (sym (append_assoc g.lines k.lines rest));
     }
 
 -- nothing has been read or written
-pub goes_on_first : (at_hand : List ℕ) (left written : Option (List ℕ)) (c : Cluster) (w : World) (n : ℕ) → Consumes left left [] → Stands c w → GoesOn (λ rest. rest_told w n (at_hand ++ rest)) at_hand left left written written c n
-goes_on_first at_hand left written c w n nothing st = record { world = w; stands = st; got = []; read = nothing; out = []; wrote = appends_nothing written; told = λ rest. refl }
+pub goes_on_first : (at_hand : List ℕ) (left written : Option (List ℕ)) (c : Cluster) (w : World) (n : ℕ) → Consumes left left [] → Stands c w → GoesOn (rest_told w n) at_hand at_hand left left written written c n
+goes_on_first at_hand left written c w n nothing st = record {
+  world = w;
+  stands = st;
+  got = [];
+  read = nothing;
+  lines = [];
+  joined = append-nil at_hand;
+  out = [];
+  wrote = appends_nothing written;
+  told = λ rest. refl;
+}
 
 -- the first line of a rest, where no limit is passed
 rest_line : (w : World) (n : ℕ) (line rest : List ℕ) → has_newline line ≡ false → length line ≤ longest_line → n ≤ line_limit → rest_told w n (line ++ newline ∷ rest) ≡ line_told w n line (λ v. rest_told v (suc n) rest)
@@ -92,17 +109,23 @@ rest_line w n line rest h short few =
 line_at_hand : (h0 h1 line got : List ℕ) → h0 ++ got ≡ line ++ newline ∷ h1 → (rest : List ℕ) → h0 ++ (got ++ rest) ≡ line ++ newline ∷ (h1 ++ rest)
 line_at_hand h0 h1 line got e rest = sym (append_assoc h0 got rest) ∙ ap (λ xs. xs ++ rest) e ∙ append_assoc line (newline ∷ h1) rest
 
+-- a line with its newline, and a rest
+line_then : (line rest : List ℕ) → (line ++ newline ∷ []) ++ rest ≡ line ++ newline ∷ rest
+line_then line rest = append_assoc line (newline ∷ []) rest
+
 -- a line is answered, and the run goes on behind it
 pub line_goes_on : (h0 h1 line : List ℕ) (l0 l1 w0 w1 : Option (List ℕ)) (c : Cluster) (w : World) (n : ℕ) → CutsLine h0 h1 line l0 l1 Line → n ≤ line_limit → IsAnswered w n line c w0 w1
-    → GoesOn (λ rest. rest_told w n (h0 ++ rest)) h1 l0 l1 w0 w1 c (n + 1)
+    → GoesOn (rest_told w n) h0 h1 l0 l1 w0 w1 c (n + 1)
 line_goes_on h0 h1 line l0 l1 w0 w1 c w n k few a = record {
   world = a.world;
   stands = a.stands;
   got = k.got;
   read = k.read;
+  lines = line ++ newline ∷ [];
+  joined = k.is.0 ∙ sym (line_then line h1);
   out = a.out;
   wrote = a.wrote;
-  told = λ rest. rw add-one (sym (ap (rest_told w n) (line_at_hand h0 h1 line k.got k.is.0 rest) ∙ rest_line w n line (h1 ++ rest) k.is.1 k.is.2 few ∙ a.told (λ v. rest_told v (suc n) (h1 ++ rest))));
+  told = λ rest. rw add-one (sym (ap (rest_told w n) (line_then line rest) ∙ rest_line w n line rest k.is.1 k.is.2 few ∙ a.told (λ v. rest_told v (suc n) rest)));
 }
 
 -- a line ends the run
@@ -133,7 +156,7 @@ broken_ends h0 h1 line l0 l1 w0 w1 w n s k few a =
 nothing_at_hand : (h0 got rest : List ℕ) → h0 ++ got ≡ [] → rest ≡ [] → h0 ++ (got ++ rest) ≡ []
 nothing_at_hand h0 got rest e r = sym (append_assoc h0 got rest) ∙ rw (e, r) refl
 
-nothing_told : (w : World) (n : ℕ) → rest_told w n [] ≡ ended ends.Done
+pub nothing_told : (w : World) (n : ℕ) → rest_told w n [] ≡ ended ends.Done
 unfolding lines_told
 nothing_told w n = refl
 
@@ -235,7 +258,9 @@ pub opens : (h0 h1 line : List ℕ) (l0 l1 : Option (List ℕ)) (first : ℕ × 
 opens h0 h1 line l0 l1 first none k e = record {
   got = k.got;
   read = k.read;
-  told = λ rest. ap scenario (first_at_hand h0 h1 line k.got none k.is.0 rest) ∙ scenario_line line (h1 ++ rest) k.is.1 k.is.2 ∙ ap (λ r. or_bad 1 r (λ x. genesis_told x (λ w. rest_told w 2 (h1 ++ rest)))) e;
+  lines = line ++ newline ∷ [];
+  joined = ap (λ xs. xs ++ k.got) (sym none) ∙ k.is.0 ∙ sym (line_then line h1);
+  told = λ rest. ap scenario (line_then line rest) ∙ scenario_line line rest k.is.1 k.is.2 ∙ ap (λ r. or_bad 1 r (λ x. genesis_told x (λ w. rest_told w 2 rest))) e;
 }
 
 -- the first line is no genesis
@@ -283,17 +308,20 @@ pub greeting_ends : (first : ℕ × Genesis) (at_hand : List ℕ) (l0 l1 w0 w1 :
 greeting_ends first at_hand l0 l1 w0 w1 s o f v = record {
   input = o.got ++ rest_of l1;
   is = read_is_input l0 l1 o.got (rest_of l1) o.read (rest_is_input l1);
-  said = subst (λ t. Says w0 w1 t s) (sym (o.told (rest_of l1))) (says_at_fault w0 w1 _ s v (front_more w0 w1 (reply_line 1 (genesis_reply (world_of first.0 first.1))) _ f));
+  said = subst (λ t. Says w0 w1 t s) (sym (ap scenario (lines_at_hand [] at_hand o.lines o.got (rest_of l1) o.joined) ∙ o.told (at_hand ++ rest_of l1)))
+      (says_at_fault w0 w1 _ s v (front_more w0 w1 (reply_line 1 (genesis_reply (world_of first.0 first.1))) _ f));
 }
 
 -- the reply to the first line is written
 pub greeted : (first : ℕ × Genesis) (at_hand : List ℕ) (l0 l1 w0 w1 : Option (List ℕ)) (c : Cluster) → OpensTo first at_hand l0 l1 → Stands c (world_of first.0 first.1) → Appends w0 w1 (reply_line 1 (genesis_reply (world_of first.0 first.1)))
-    → GoesOn scenario at_hand l0 l1 w0 w1 c 2
+    → GoesOn scenario [] at_hand l0 l1 w0 w1 c 2
 greeted first at_hand l0 l1 w0 w1 c o st a = record {
   world = world_of first.0 first.1;
   stands = st;
   got = o.got;
   read = o.read;
+  lines = o.lines;
+  joined = o.joined;
   out = reply_line 1 (genesis_reply (world_of first.0 first.1));
   wrote = a;
   told = λ rest. sym (o.told rest);

@@ -41,15 +41,18 @@ pub record IsRunOf (whole : List ℕ → Told) (left written_before written : Op
   pub is : IsInput left input
   pub said : Says written_before written (whole input) status
 
--- what was written, and then what is told of the bytes at hand and of any rest, is what the whole is told of the bytes that were read and that rest
-pub record GoesOn (whole : List ℕ → Told) (at_hand : List ℕ) (left_before left written_before written : Option (List ℕ)) (cluster : Cluster) (n : ℕ) : Type 0 where
+-- of the bytes at hand and those that were read there are lines at first, which are answered, and the others are at hand;
+-- what was written, and then what is told of any rest, is what the whole is told of those lines and that rest
+pub record GoesOn (whole : List ℕ → Told) (before at_hand : List ℕ) (left_before left written_before written : Option (List ℕ)) (cluster : Cluster) (n : ℕ) : Type 0 where
   pub world : World
   pub stands : Stands cluster world
   pub got : List ℕ
   pub read : Consumes left_before left got
+  pub lines : List ℕ
+  pub joined : before ++ got ≡ lines ++ at_hand
   pub out : List ℕ
   pub wrote : Appends written_before written out
-  pub told : (rest : List ℕ) → told_after out (rest_told world n (at_hand ++ rest)) ≡ whole (got ++ rest)
+  pub told : (rest : List ℕ) → told_after out (rest_told world n rest) ≡ whole (lines ++ rest)
 
 -- a line is read and executed, and its reply is written
 pub record IsAnswered (w : World) (n : ℕ) (line : List ℕ) (cluster : Cluster) (written_before written : Option (List ℕ)) : Type 0 where
@@ -73,4 +76,6 @@ EndsReading errors.NoMemory status = status ≡ NoMemory
 pub record OpensTo (first : ℕ × Genesis) (at_hand : List ℕ) (left_before left : Option (List ℕ)) : Type 0 where
   pub got : List ℕ
   pub read : Consumes left_before left got
-  pub told : (rest : List ℕ) → scenario (got ++ rest) ≡ genesis_told first (λ w. rest_told w 2 (at_hand ++ rest))
+  pub lines : List ℕ
+  pub joined : got ≡ lines ++ at_hand
+  pub told : (rest : List ℕ) → scenario (lines ++ rest) ≡ genesis_told first (λ w. rest_told w 2 rest)

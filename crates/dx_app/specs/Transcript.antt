@@ -7,7 +7,7 @@ use Rattle.dx_spec.specs.Step.{◌>>=◌}
 use Rattle.dx_scenario.specs.Genesis.{genesis_of}
 use Rattle.dx_scenario.specs.declared.event.Event.{Event}
 use Rattle.dx_scenario.specs.Events.{event_of}
-use Rattle.dx_print.specs.declared.replies.Word.TheVariants as words
+use Rattle.dx_print.specs.declared.words.Word.TheVariants as words
 use Rattle.dx_print.specs.declared.replies.Reply.{Reply}
 use Rattle.dx_print.specs.Replies.{reply_line}
 use Rattle.dx_print.specs.Statuses.{last_line}

@@ -4,8 +4,8 @@
 //! its contract: what is written and the status are those of `transcript` of its words and its input,
 //! a definition over bytes; each status comes exactly by its cause, and a good scenario is answered
 //! whole unless a count rises or memory is wanting; a fault of the outside leaves a front of it and
-//! comes only where that object's count rose; and every committed reply is what the plain fold of the
-//! node's committed blocks says.
+//! comes only where that object's count rose; each line is answered before the next one is read; and every
+//! committed reply is what the plain fold of the node's committed blocks says.
 //!
 //! It stands on `dx_io` (source, sink and keeper), `dx_scenario` (what a line says), `dx_print` (what is
 //! written) and `dx_cluster` (what an event does to nodes and slots). From below to above: `lines` cuts the
@@ -13,15 +13,17 @@
 //! lines, and `program` has the two calls.
 //!
 //! In `specs/`, `Transcript` says what is written for words and input, `Causes` when each status comes,
-//! and `Runs` how far a run has come.
+//! `Prompt` how far a run reads and what it has answered by then, and `Runs` how far a run has come.
 #![tactic(auto)]
 
+mod laws;
 mod lines;
 mod output;
 mod program;
 mod reading;
 mod replay;
 
+pub use laws::events_are_served;
 pub use program::{replay_all, run};
 
 #[cfg(test)]

@@ -1,8 +1,9 @@
 ghost use Rattle.std.specs.Prelude.{◌≡◌, ◌+◌, ◌<◌, ◌≤◌, [], ◌∷◌, ◌++◌, length, take, drop, false, IfOk, OnOk, OnErr, IsErrOf, MatchOption, MatchBool, vec_len};
 ghost use Rattle.std.specs.Bool.{OnTrue, OnFalse};
-ghost use Rattle.std.specs.Io.KnownBytes.{Consumes, IsAtEnd};
+ghost use Rattle.std.specs.Io.KnownBytes.{Consumes, Keeps, IsAtEnd};
 ghost use Rattle.dx_io.specs.Causes.{Rose};
 ghost use Rattle.dx_app.specs.Lines.{newline, longest_line, has_newline, CutsLine, ReadsOn, Takes, EndsLine};
+ghost use Rattle.dx_app.specs.Prompt.{buffer, HasNoNewline, IsNear, ReadsTo};
 ghost use Rattle.dx_app.specs.declared.lines.ReadError.TheVariants as errors;
 ghost use Rattle.dx_app.specs.declared.lines.Cut.TheVariants as cuts;
 
@@ -11,6 +12,7 @@ use std::alloc::AllocError;
 use std::marker::Model;
 use thiserror::Error;
 
+/// The most bytes that are read at once.
 const CHUNK: usize = 4096;
 
 /// The most bytes of a line, without its newline.
@@ -106,7 +108,8 @@ impl LineReader {
     }
 
     fn is_empty(&self) -> bool
-        ensures { MatchBool result (self.now ≡ []) (0 < length self.now) }
+        ensures tells { MatchBool result (self.now ≡ []) (0 < length self.now) }
+        ensures few { length self.now ≤ buffer }
     {
         self.at == self.end
     }
@@ -114,8 +117,11 @@ impl LineReader {
     /// Reads on where nothing is at hand. False is the end of the input.
     fn fill<S: Source>(&mut self, source: &mut S) -> Result<bool, Failed>
         requires { self.old ≡ [] }
-        ensures more { IfOk result (λ more. MatchBool more (0 < length self.new) ((self.new ≡ []) × IsAtEnd (S.left source.new))) }
+        ensures more { IfOk result (λ more. MatchBool more (0 < length self.new)
+            ((self.new ≡ []) × IsAtEnd (S.left source.new))) }
         ensures bytes { OnOk result (Consumes (S.left source.old) (S.left source.new) self.new) }
+        ensures few { OnOk result (length self.new ≤ buffer) }
+        ensures kept { OnErr result (Keeps (S.left source.old) (S.left source.new)) }
         ensures later { S.faults source.old ≤ S.faults source.new }
         ensures failed { OnErr result (Rose (S.faults source.old) (S.faults source.new)) }
     {
@@ -127,8 +133,12 @@ impl LineReader {
 
     /// Says whether there is a byte at hand, and reads on where there was none.
     pub fn has_more<S: Source>(&mut self, source: &mut S) -> Result<bool, Failed>
-        ensures more { IfOk result (λ more. MatchBool more (0 < length self.new) ((self.new ≡ []) × IsAtEnd (S.left source.new))) }
+        ensures more { IfOk result (λ more. MatchBool more (0 < length self.new)
+            ((self.new ≡ []) × IsAtEnd (S.left source.new))) }
         ensures on { OnOk result (ReadsOn self.old self.new (S.left source.old) (S.left source.new)) }
+        ensures few { OnOk result (length self.new ≤ buffer) }
+        ensures empty { OnErr result (self.old ≡ []) }
+        ensures kept { OnErr result (Keeps (S.left source.old) (S.left source.new)) }
         ensures later { S.faults source.old ≤ S.faults source.new }
         ensures failed { OnErr result (Rose (S.faults source.old) (S.faults source.new)) }
     {
@@ -159,14 +169,19 @@ impl LineReader {
         }
     }
 
-    /// Reads the next line into `line`, without its newline.
+    /// Reads the next line into `line`, without its newline. It reads no further than one buffer behind the front of
+    /// that line.
     pub fn next_line<S: Source>(
         &mut self,
         source: &mut S,
         line: &mut Vec<u8>,
     ) -> Result<Cut, ReadError>
-        ensures cut { IfOk result (λ answer. CutsLine self.old self.new line.new.items (S.left source.old) (S.left source.new) answer) }
+        ensures cut { IfOk result (λ answer. CutsLine self.old self.new line.new.items
+            (S.left source.old) (S.left source.new) answer) }
         ensures ends { IfOk result (λ answer. answer ≡ cuts.End → IsAtEnd (S.left source.new)) }
+        ensures near { ReadsTo self.old (S.left source.old) (S.left source.new) IsNear }
+        ensures in_line { IsErrOf result ReadError.Failed
+            → ReadsTo self.old (S.left source.old) (S.left source.new) HasNoNewline }
         ensures later { S.faults source.old ≤ S.faults source.new }
         ensures failed { IsErrOf result ReadError.Failed → Rose (S.faults source.old) (S.faults source.new) }
     {

@@ -29,7 +29,8 @@ fn write_whole<W: Sink>(sink: &mut W, bytes: &[u8]) -> Result<(), SinkError>
 /// Writes a text, or says how the run ends.
 pub fn write_text<W: Sink>(sink: &mut W, text: &[u8]) -> Result<(), Status>
     ensures written { MatchResult result (λ _. Appends (W.written sink.old) (W.written sink.new) text.now)
-        (λ s. AppendsFront (W.written sink.old) (W.written sink.new) text.now × ((s ≡ ends.WriteFault) ⊎ (s ≡ ends.NoMemory))) }
+        (λ s. AppendsFront (W.written sink.old) (W.written sink.new) text.now × ((s ≡ ends.WriteFault) ⊎
+        (s ≡ ends.NoMemory))) }
     ensures later { W.faults sink.old ≤ W.faults sink.new }
     ensures failed { IfErr result (λ s. s ≡ ends.WriteFault → Rose (W.faults sink.old) (W.faults sink.new)) }
 {

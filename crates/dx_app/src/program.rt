@@ -8,6 +8,8 @@ ghost use Rattle.dx_app.specs.Output.{AppendsFront};
 ghost use Rattle.dx_cluster.specs.World.{World, Stands};
 ghost use Rattle.dx_app.specs.Transcript.{ended, genesis_reply, scenario, transcript};
 ghost use Rattle.dx_app.specs.Runs.{Says, IsRunOf, GoesOn, OpensTo};
+ghost use Rattle.dx_app.specs.Counts.{Later, Caused, CausedByWrites};
+ghost use Rattle.dx_app.specs.Prompt.{IsNear, ReadsTo, StopsInLine, RepliesAreOut, ReadsNoFurther};
 ghost use Rattle.dx_app.specs.Causes.{IsTaken, IsGoodScenario, IsFirstBad, IsTooLong, HadSurely, ComesExactly, IsWhole};
 
 use crate::lines::{Cut, LineReader};
@@ -32,12 +34,15 @@ fn open<S: Source, W: Sink>(
     ensures silent { IfOk result (λ _. W.written sink.new ≡ W.written sink.old) }
     ensures nodes { IfOk result (λ first. IsNatFrom 1 16 first.0) }
     ensures good { IfOk result (λ first. IsGenesis first.1) }
-    ensures ended { IfErr result (λ s. IsRunOf scenario (S.left source.old) (W.written sink.old) (W.written sink.new) s) }
-    ensures read_later { S.faults source.old ≤ S.faults source.new }
-    ensures write_later { W.faults sink.old ≤ W.faults sink.new }
-    ensures read_failed { IfErr result (λ s. s ≡ ends.ReadFault → Rose (S.faults source.old) (S.faults source.new)) }
-    ensures write_failed { IfErr result (λ s. s ≡ ends.WriteFault → Rose (W.faults sink.old) (W.faults sink.new)) }
-    ensures others { IfErr result (λ s. (s ≡ ends.Done → ⊥) × (s ≡ ends.KeepFault → ⊥)) }
+    ensures ended { IfErr result (λ s. IsRunOf scenario (S.left source.old)
+        (W.written sink.old) (W.written sink.new) s) }
+    ensures near { ReadsTo reader.old (S.left source.old) (S.left source.new) IsNear }
+    ensures stops { IfErr result (λ s. s ≡ ends.ReadFault
+        → StopsInLine reader.old (S.left source.old) (S.left source.new) (W.written sink.old) (W.written sink.new)) }
+    ensures later { Later (S.faults source.old) (S.faults source.new) (W.faults sink.old) (W.faults sink.new) }
+    ensures caused { IfErr result (Caused (S.faults source.old) (S.faults source.new)
+        (W.faults sink.old) (W.faults sink.new)) }
+    ensures not_done { IfErr result (λ s. s ≡ ends.Done → ⊥) }
 {
     let mut line = Vec::new(alloc);
     let cut = match reader.next_line(source, &mut line) {
@@ -59,10 +64,10 @@ fn open<S: Source, W: Sink>(
 fn greet<W: Sink>(alloc: Global, sink: &mut W, cluster: &Cluster) -> Result<(), Status>
     ensures written { (w : World) → Stands cluster.now w
         → MatchResult result (λ _. Appends (W.written sink.old) (W.written sink.new) (reply_line 1 (genesis_reply w)))
-        (λ s. AppendsFront (W.written sink.old) (W.written sink.new) (reply_line 1 (genesis_reply w)) × ((s ≡ ends.WriteFault) ⊎ (s ≡ ends.NoMemory))) }
+        (λ s. AppendsFront (W.written sink.old) (W.written sink.new) (reply_line 1 (genesis_reply w)) ×
+        ((s ≡ ends.WriteFault) ⊎ (s ≡ ends.NoMemory))) }
     ensures later { W.faults sink.old ≤ W.faults sink.new }
-    ensures failed { IfErr result (λ s. s ≡ ends.WriteFault → Rose (W.faults sink.old) (W.faults sink.new)) }
-    ensures others { IfErr result (λ s. (s ≡ ends.Done → ⊥) × (s ≡ ends.ReadFault → ⊥) × (s ≡ ends.KeepFault → ⊥)) }
+    ensures caused { IfErr result (CausedByWrites (W.faults sink.old) (W.faults sink.new)) }
 {
     let Ok(answer) = cluster.heights() else {
         return Err(Status::NoMemory);
@@ -81,9 +86,11 @@ fn greet<W: Sink>(alloc: Global, sink: &mut W, cluster: &Cluster) -> Result<(), 
 fn answer_all<S: Source, W: Sink>(alloc: Global, source: &mut S, sink: &mut W) -> Status
     ensures said { IsRunOf scenario (S.left source.old) (W.written sink.old) (W.written sink.new) result }
     ensures done { result ≡ ends.Done → IsAtEnd (S.left source.new) }
-    ensures read_fault { result ≡ ends.ReadFault → Rose (S.faults source.old) (S.faults source.new) }
-    ensures write_fault { result ≡ ends.WriteFault → Rose (W.faults sink.old) (W.faults sink.new) }
-    ensures keep_fault { result ≡ ends.KeepFault → ⊥ }
+    ensures prompt { result ≡ ends.ReadFault
+        → RepliesAreOut (S.left source.old) (S.left source.new) (W.written sink.old) (W.written sink.new) }
+    ensures no_further { ReadsNoFurther (S.left source.old) (S.left source.new)
+        (W.written sink.old) (W.written sink.new) }
+    ensures caused { Caused (S.faults source.old) (S.faults source.new) (W.faults sink.old) (W.faults sink.new) result }
 {
     let mut reader = LineReader::new();
     let (count, genesis) = match open(alloc, &mut reader, source, sink) {
@@ -114,9 +121,18 @@ pub fn replay_all<S: Source, W: Sink, K: Keeper>(
     ensures said { IsRunOf scenario (S.left source.old) (W.written sink.old) (W.written sink.new) result }
     ensures done { result ≡ ends.Done → IsAtEnd (S.left source.new) }
 
+    // Each line is answered before the next one is read: where a read fails, just the replies to all lines that are whole
+    // in what was taken from the source are written; and whatever ends the run, the source is read no further than
+    // one line whose reply need not be written yet, and at most one buffer.
+    ensures prompt { result ≡ ends.ReadFault
+        → RepliesAreOut (S.left source.old) (S.left source.new) (W.written sink.old) (W.written sink.new) }
+    ensures no_further { ReadsNoFurther (S.left source.old) (S.left source.new)
+        (W.written sink.old) (W.written sink.new) }
+
     // Each status comes exactly by its cause. Of several faults of lines the first ends the run.
     ensures good { ComesExactly (S.left source.old) result ends.Done IsGoodScenario }
-    ensures bad_line { (line field : ℕ) → ComesExactly (S.left source.old) result (ends.BadLine line field) (λ input. IsFirstBad input line field) }
+    ensures bad_line { (line field : ℕ)
+        → ComesExactly (S.left source.old) result (ends.BadLine line field) (λ input. IsFirstBad input line field) }
     ensures long { ComesExactly (S.left source.old) result ends.Long IsTooLong }
     ensures usage { result ≡ ends.Usage → ⊥ }
     ensures kept_bad { (node height : ℕ) → result ≡ ends.KeptBad node height → ⊥ }
@@ -129,7 +145,8 @@ pub fn replay_all<S: Source, W: Sink, K: Keeper>(
     ensures keeper { keeper.new ≡ keeper.old }
 
     // A good scenario is answered whole where no count rises, unless memory is wanting.
-    ensures complete { HadSurely (S.left source.old) IsGoodScenario → ¬ Rose (S.faults source.old) (S.faults source.new) → ¬ Rose (W.faults sink.old) (W.faults sink.new)
+    ensures complete { HadSurely (S.left source.old) IsGoodScenario
+        → ¬ Rose (S.faults source.old) (S.faults source.new) → ¬ Rose (W.faults sink.old) (W.faults sink.new)
         → IsWhole scenario (S.left source.old) (W.written sink.old) (W.written sink.new) result }
 {
     answer_all(alloc, source, sink)
@@ -138,8 +155,7 @@ pub fn replay_all<S: Source, W: Sink, K: Keeper>(
 /// Refuses the words, and ends the run.
 fn refuse_words<W: Sink>(alloc: Global, sink: &mut W) -> Status
     ensures said { Says (W.written sink.old) (W.written sink.new) (ended ends.Usage) result }
-    ensures failed { result ≡ ends.WriteFault → Rose (W.faults sink.old) (W.faults sink.new) }
-    ensures others { (result ≡ ends.Done → ⊥) × (result ≡ ends.ReadFault → ⊥) × (result ≡ ends.KeepFault → ⊥) }
+    ensures caused { CausedByWrites (W.faults sink.old) (W.faults sink.new) result }
 {
     let status = Status::Usage;
     match write_last(alloc, sink, &status) {
@@ -152,9 +168,11 @@ fn refuse_words<W: Sink>(alloc: Global, sink: &mut W) -> Status
 fn obey<S: Source, W: Sink>(alloc: Global, words: &[String], source: &mut S, sink: &mut W) -> Status
     ensures said { IsRunOf (transcript words.now) (S.left source.old) (W.written sink.old) (W.written sink.new) result }
     ensures done { result ≡ ends.Done → IsAtEnd (S.left source.new) }
-    ensures read_fault { result ≡ ends.ReadFault → Rose (S.faults source.old) (S.faults source.new) }
-    ensures write_fault { result ≡ ends.WriteFault → Rose (W.faults sink.old) (W.faults sink.new) }
-    ensures keep_fault { result ≡ ends.KeepFault → ⊥ }
+    ensures prompt { result ≡ ends.ReadFault
+        → RepliesAreOut (S.left source.old) (S.left source.new) (W.written sink.old) (W.written sink.new) }
+    ensures no_further { ReadsNoFurther (S.left source.old) (S.left source.new)
+        (W.written sink.old) (W.written sink.new) }
+    ensures caused { Caused (S.faults source.old) (S.faults source.new) (W.faults sink.old) (W.faults sink.new) result }
 {
     if !words.is_empty() {
         return refuse_words(alloc, sink);
@@ -176,9 +194,20 @@ pub fn run<S: Source, W: Sink, K: Keeper>(
     ensures said { IsRunOf (transcript words.now) (S.left source.old) (W.written sink.old) (W.written sink.new) result }
     ensures done { result ≡ ends.Done → IsAtEnd (S.left source.new) }
 
+    // Each line is answered before the next one is read: where a read fails, just the replies to all lines that are whole
+    // in what was taken from the source are written; and whatever ends the run, the source is read no further than
+    // one line whose reply need not be written yet, and at most one buffer.
+    ensures prompt { result ≡ ends.ReadFault
+        → RepliesAreOut (S.left source.old) (S.left source.new) (W.written sink.old) (W.written sink.new) }
+    ensures no_further { ReadsNoFurther (S.left source.old) (S.left source.new)
+        (W.written sink.old) (W.written sink.new) }
+
     // Each status comes exactly by its cause. Of several faults of lines the first ends the run.
-    ensures good { ComesExactly (S.left source.old) result ends.Done (λ input. IsTaken words.now × IsGoodScenario input) }
-    ensures bad_line { (line field : ℕ) → ComesExactly (S.left source.old) result (ends.BadLine line field) (λ input. IsTaken words.now × IsFirstBad input line field) }
+    ensures good { ComesExactly (S.left source.old) result ends.Done
+        (λ input. IsTaken words.now × IsGoodScenario input) }
+    ensures bad_line { (line field : ℕ)
+        → ComesExactly (S.left source.old) result (ends.BadLine line field)
+        (λ input. IsTaken words.now × IsFirstBad input line field) }
     ensures long { ComesExactly (S.left source.old) result ends.Long (λ input. IsTaken words.now × IsTooLong input) }
     ensures usage { ComesExactly (S.left source.old) result ends.Usage (λ input. ¬ IsTaken words.now) }
     ensures kept_bad { (node height : ℕ) → result ≡ ends.KeptBad node height → ⊥ }
@@ -191,7 +220,8 @@ pub fn run<S: Source, W: Sink, K: Keeper>(
     ensures keeper { keeper.new ≡ keeper.old }
 
     // A good scenario is answered whole where no count rises, unless memory is wanting.
-    ensures complete { IsTaken words.now → HadSurely (S.left source.old) IsGoodScenario → ¬ Rose (S.faults source.old) (S.faults source.new) → ¬ Rose (W.faults sink.old) (W.faults sink.new)
+    ensures complete { IsTaken words.now → HadSurely (S.left source.old) IsGoodScenario
+        → ¬ Rose (S.faults source.old) (S.faults source.new) → ¬ Rose (W.faults sink.old) (W.faults sink.new)
         → IsWhole (transcript words.now) (S.left source.old) (W.written sink.old) (W.written sink.new) result }
 {
     obey(alloc, words, source, sink)

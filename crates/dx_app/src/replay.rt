@@ -6,6 +6,8 @@ ghost use Rattle.dx_print.specs.Statuses.{last_line};
 ghost use Rattle.dx_app.specs.Output.{AppendsFront};
 ghost use Rattle.dx_cluster.specs.World.{World, Stands};
 ghost use Rattle.dx_app.specs.Transcript.{Told, line_limit, ended, bad_line, line_told, rest_told};
+ghost use Rattle.dx_app.specs.Counts.{Later, Caused, CausedByWrites};
+ghost use Rattle.dx_app.specs.Prompt.{IsNear, ReadsTo, StopsInLine, AnswersWholeLines, AnswersAllBehind};
 ghost use Rattle.dx_app.specs.Runs.{Says, IsRunOf, GoesOn, IsAnswered, EndsAtLine, EndsReading};
 
 use crate::lines::{Cut, LineReader, ReadError};
@@ -18,13 +20,17 @@ use dx_scenario::LineFault;
 use dx_types::Status;
 use std::alloc::Global;
 
-/// One more than the most lines that are read.
-const LINES_END: u64 = 1_000_001;
+/// The most lines that are read.
+const MOST_LINES: u64 = 1_000_000;
+
+/// The number of the first line that is not read.
+const LINES_END: u64 = MOST_LINES + 1;
 
 /// Writes the last line of a run that ends with this status, or says how it ends in its place.
 pub fn write_last<W: Sink>(alloc: Global, sink: &mut W, status: &Status) -> Result<(), Status>
     ensures written { MatchResult result (λ _. Appends (W.written sink.old) (W.written sink.new) (last_line status.now))
-        (λ s. AppendsFront (W.written sink.old) (W.written sink.new) (last_line status.now) × ((s ≡ ends.WriteFault) ⊎ (s ≡ ends.NoMemory))) }
+        (λ s. AppendsFront (W.written sink.old) (W.written sink.new) (last_line status.now) ×
+        ((s ≡ ends.WriteFault) ⊎ (s ≡ ends.NoMemory))) }
     ensures later { W.faults sink.old ≤ W.faults sink.new }
     ensures failed { IfErr result (λ s. s ≡ ends.WriteFault → Rose (W.faults sink.old) (W.faults sink.new)) }
 {
@@ -38,8 +44,7 @@ pub fn write_last<W: Sink>(alloc: Global, sink: &mut W, status: &Status) -> Resu
 pub fn end_badly<W: Sink>(alloc: Global, sink: &mut W, line: u64, field: u32) -> Status
     ensures said { Says (W.written sink.old) (W.written sink.new) (bad_line line field) result }
     ensures later { W.faults sink.old ≤ W.faults sink.new }
-    ensures failed { result ≡ ends.WriteFault → Rose (W.faults sink.old) (W.faults sink.new) }
-    ensures others { (result ≡ ends.Done → ⊥) × (result ≡ ends.ReadFault → ⊥) × (result ≡ ends.KeepFault → ⊥) }
+    ensures caused { CausedByWrites (W.faults sink.old) (W.faults sink.new) result }
 {
     let status = Status::BadLine { line, field };
     match write_last(alloc, sink, &status) {
@@ -52,8 +57,7 @@ pub fn end_badly<W: Sink>(alloc: Global, sink: &mut W, line: u64, field: u32) ->
 pub fn end_at_line<W: Sink>(alloc: Global, sink: &mut W, line: u64, fault: LineFault) -> Status
     ensures said { EndsAtLine (W.written sink.old) (W.written sink.new) line fault result }
     ensures later { W.faults sink.old ≤ W.faults sink.new }
-    ensures failed { result ≡ ends.WriteFault → Rose (W.faults sink.old) (W.faults sink.new) }
-    ensures others { (result ≡ ends.Done → ⊥) × (result ≡ ends.ReadFault → ⊥) × (result ≡ ends.KeepFault → ⊥) }
+    ensures caused { CausedByWrites (W.faults sink.old) (W.faults sink.new) result }
 {
     match fault {
         LineFault::Bad { field } => end_badly(alloc, sink, line, field),
@@ -84,8 +88,7 @@ fn answer_line<W: Sink>(
     ensures ended { IfErr result (λ s. (w : World) → Stands cluster.old w
         → (next : World → Told) → Says (W.written sink.old) (W.written sink.new) (line_told w number line.now next) s) }
     ensures later { W.faults sink.old ≤ W.faults sink.new }
-    ensures failed { IfErr result (λ s. s ≡ ends.WriteFault → Rose (W.faults sink.old) (W.faults sink.new)) }
-    ensures others { IfErr result (λ s. (s ≡ ends.Done → ⊥) × (s ≡ ends.ReadFault → ⊥) × (s ≡ ends.KeepFault → ⊥)) }
+    ensures caused { IfErr result (CausedByWrites (W.faults sink.old) (W.faults sink.new)) }
 {
     let event = match read_built_event(alloc, line, cluster.count()) {
         Ok(event) => event,
@@ -112,16 +115,18 @@ fn next_reply<S: Source, W: Sink>(
 ) -> Result<(), Status>
     requires { number ≤ line_limit }
     ensures goes_on { OnOk result ((w : World) → Stands cluster.old w
-        → GoesOn (λ rest. rest_told w number (reader.old ++ rest)) reader.new (S.left source.old) (S.left source.new)
+        → GoesOn (rest_told w number) reader.old reader.new (S.left source.old) (S.left source.new)
         (W.written sink.old) (W.written sink.new) cluster.new (number + 1)) }
     ensures ended { IfErr result (λ s. (w : World) → Stands cluster.old w
-        → IsRunOf (λ rest. rest_told w number (reader.old ++ rest)) (S.left source.old) (W.written sink.old) (W.written sink.new) s) }
+        → IsRunOf (λ rest. rest_told w number (reader.old ++ rest)) (S.left source.old)
+        (W.written sink.old) (W.written sink.new) s) }
     ensures done { IfErr result (λ s. s ≡ ends.Done → IsAtEnd (S.left source.new)) }
-    ensures read_later { S.faults source.old ≤ S.faults source.new }
-    ensures write_later { W.faults sink.old ≤ W.faults sink.new }
-    ensures read_failed { IfErr result (λ s. s ≡ ends.ReadFault → Rose (S.faults source.old) (S.faults source.new)) }
-    ensures write_failed { IfErr result (λ s. s ≡ ends.WriteFault → Rose (W.faults sink.old) (W.faults sink.new)) }
-    ensures no_keeper { IfErr result (λ s. s ≡ ends.KeepFault → ⊥) }
+    ensures near { ReadsTo reader.old (S.left source.old) (S.left source.new) IsNear }
+    ensures stops { IfErr result (λ s. s ≡ ends.ReadFault
+        → StopsInLine reader.old (S.left source.old) (S.left source.new) (W.written sink.old) (W.written sink.new)) }
+    ensures later { Later (S.faults source.old) (S.faults source.new) (W.faults sink.old) (W.faults sink.new) }
+    ensures caused { IfErr result (Caused (S.faults source.old) (S.faults source.new)
+        (W.faults sink.old) (W.faults sink.new)) }
 {
     let cut = match reader.next_line(source, line) {
         Ok(cut) => cut,
@@ -138,8 +143,7 @@ fn next_reply<S: Source, W: Sink>(
 fn end_long<W: Sink>(alloc: Global, sink: &mut W) -> Status
     ensures said { Says (W.written sink.old) (W.written sink.new) (ended ends.Long) result }
     ensures later { W.faults sink.old ≤ W.faults sink.new }
-    ensures failed { result ≡ ends.WriteFault → Rose (W.faults sink.old) (W.faults sink.new) }
-    ensures others { (result ≡ ends.Done → ⊥) × (result ≡ ends.ReadFault → ⊥) × (result ≡ ends.KeepFault → ⊥) }
+    ensures caused { CausedByWrites (W.faults sink.old) (W.faults sink.new) result }
 {
     let status = Status::Long;
     match write_last(alloc, sink, &status) {
@@ -155,16 +159,18 @@ fn end_of_lines<S: Source, W: Sink>(
     source: &mut S,
     sink: &mut W,
 ) -> Status
-    ensures said { (w : World) → IsRunOf (λ rest. rest_told w 1000001 (reader.old ++ rest)) (S.left source.old) (W.written sink.old) (W.written sink.new) result }
+    ensures said { (w : World) → IsRunOf (λ rest. rest_told w LINES_END (reader.old ++ rest)) (S.left source.old)
+        (W.written sink.old) (W.written sink.new) result }
     ensures done { result ≡ ends.Done → IsAtEnd (S.left source.new) }
-    ensures read_later { S.faults source.old ≤ S.faults source.new }
-    ensures write_later { W.faults sink.old ≤ W.faults sink.new }
-    ensures read_failed { result ≡ ends.ReadFault → Rose (S.faults source.old) (S.faults source.new) }
-    ensures write_failed { result ≡ ends.WriteFault → Rose (W.faults sink.old) (W.faults sink.new) }
-    ensures no_keeper { result ≡ ends.KeepFault → ⊥ }
+    ensures near { ReadsTo reader.old (S.left source.old) (S.left source.new) IsNear }
+    ensures stops { result ≡ ends.ReadFault
+        → StopsInLine reader.old (S.left source.old) (S.left source.new) (W.written sink.old) (W.written sink.new) }
+    ensures later { Later (S.faults source.old) (S.faults source.new) (W.faults sink.old) (W.faults sink.new) }
+    ensures caused { Caused (S.faults source.old) (S.faults source.new) (W.faults sink.old) (W.faults sink.new) result }
 {
-    let Ok(more) = reader.has_more(source) else {
-        return Status::ReadFault;
+    let more = match reader.has_more(source) {
+        Ok(more) => more,
+        Err(_) => return Status::ReadFault,
     };
     if more {
         return end_long(alloc, sink);
@@ -181,13 +187,17 @@ pub fn replay_lines<S: Source, W: Sink>(
     sink: &mut W,
 ) -> Status
     ensures said { (w : World) → Stands cluster.old w
-        → IsRunOf (λ rest. rest_told w 2 (reader.old ++ rest)) (S.left source.old) (W.written sink.old) (W.written sink.new) result }
+        → IsRunOf (λ rest. rest_told w 2 (reader.old ++ rest)) (S.left source.old)
+        (W.written sink.old) (W.written sink.new) result }
     ensures done { result ≡ ends.Done → IsAtEnd (S.left source.new) }
-    ensures read_later { S.faults source.old ≤ S.faults source.new }
-    ensures write_later { W.faults sink.old ≤ W.faults sink.new }
-    ensures read_failed { result ≡ ends.ReadFault → Rose (S.faults source.old) (S.faults source.new) }
-    ensures write_failed { result ≡ ends.WriteFault → Rose (W.faults sink.old) (W.faults sink.new) }
-    ensures no_keeper { result ≡ ends.KeepFault → ⊥ }
+    ensures no_further { (w : World) → Stands cluster.old w
+        → AnswersAllBehind (rest_told w 2) reader.old (S.left source.old) (S.left source.new)
+        (W.written sink.old) (W.written sink.new) }
+    ensures prompt { result ≡ ends.ReadFault → (w : World) → Stands cluster.old w
+        → AnswersWholeLines (rest_told w 2) reader.old (S.left source.old) (S.left source.new)
+        (W.written sink.old) (W.written sink.new) }
+    ensures later { Later (S.faults source.old) (S.faults source.new) (W.faults sink.old) (W.faults sink.new) }
+    ensures caused { Caused (S.faults source.old) (S.faults source.new) (W.faults sink.old) (W.faults sink.new) result }
 {
     let mut line = Vec::new(alloc);
     'lines: for number in 2..LINES_END {

@@ -11,10 +11,10 @@ use std::alloc::Global;
 use std::test::Fail;
 
 mod bad_lines;
+mod closing;
 mod failing;
 mod limits;
 mod node;
-mod unbuilt;
 mod worked;
 
 /// A first line: two nodes, and no market.
@@ -68,41 +68,26 @@ fn answer_surely(alloc: Global, input: Vec<u8>, sink: &mut SureSink) -> Status
     replay_all(alloc, &mut source, sink, &mut keeper)
 }
 
+/// A good scenario is answered whole, with no words too. A word is refused. A bad line ends a run: the replies to all lines
+/// before it are written, and then the fault.
 #[test]
-fn deposits_are_committed(rt: HostRuntime) -> Result<(), Fail> {
+fn runs_end_by_their_causes(rt: HostRuntime) -> Result<(), Fail> {
     let alloc = rt.alloc();
     let mut sink = SureSink::new(alloc);
     let status = answer_surely(alloc, DEPOSITS.as_bytes().to_vec(alloc)?, &mut sink);
     assert_eq!(rt; status, Status::Done);
     assert_eq!(rt; sink.bytes(), REPLIES.as_bytes());
-    Ok(())
-}
-
-#[test]
-fn no_words_are_a_replay(rt: HostRuntime) -> Result<(), Fail> {
-    let (status, sink) = outcome(rt.alloc(), DEPOSITS.as_bytes(), &[])?;
+    let (status, sink) = outcome(alloc, DEPOSITS.as_bytes(), &[])?;
     assert_eq!(rt; status, Status::Done);
     assert_eq!(rt; sink.bytes(), REPLIES.as_bytes());
-    Ok(())
-}
-
-#[test]
-fn a_word_is_refused(rt: HostRuntime) -> Result<(), Fail> {
-    let alloc = rt.alloc();
     let words = vec![in alloc; String::from_str(alloc, "--jobs")?]?;
     let usage = "usage: perpnode [--job replay|selfrun|generate] [--seed N] [--events N]\n";
     let (status, sink) = outcome(alloc, DEPOSITS.as_bytes(), words.as_slice())?;
     assert_eq!(rt; status, Status::Usage);
     assert_eq!(rt; sink.bytes(), usage.as_bytes());
-    Ok(())
-}
-
-/// The replies to all lines before a bad one are written, then the fault.
-#[test]
-fn a_bad_line_ends_a_run(rt: HostRuntime) -> Result<(), Fail> {
     let input =
         "[\"genesis\",1,0,0,1,[500,200,5000,1500000,1000000],[]]\n[\"commit\",0,0]\n[\"commit\",0]\n[\"commit\",0,0]\n";
-    let (status, sink) = outcome(rt.alloc(), input.as_bytes(), &[])?;
+    let (status, sink) = outcome(alloc, input.as_bytes(), &[])?;
     assert_eq!(rt; status, Status::BadLine { line: 3, field: 2 });
     assert_eq!(rt;
         sink.bytes(),

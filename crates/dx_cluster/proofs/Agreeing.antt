@@ -3,23 +3,24 @@ use Rattle.std.proofs.Common.{◌≡◌, ℕ, zero, suc, List, [], ◌∷◌, ma
 use Rattle.std.specs.Prelude.{slice_get, All, IsTrue}
 use Rattle.std.specs.FinMap.{get, insert}
 use Rattle.dx_types.specs.declared.SubaccountId.{SubaccountId}
+use Rattle.dx_types.specs.declared.OrderId.{OrderId}
 use Rattle.dx_types.specs.declared.Block.{Block}
 use Rattle.dx_types.specs.declared.Bad.{Bad}
 use Rattle.dx_spec.specs.Step.{◌>>=◌}
-use Rattle.dx_spec.specs.State.{State}
+use Rattle.dx_spec.specs.State.{State, filled_of}
 use Rattle.dx_spec.specs.Blocks.{block_step}
 use Rattle.dx_spec.specs.Audits.{audit}
 use Rattle.dx_node_spec.specs.Node.{Node, committed}
-use Rattle.dx_speculation.specs.Faithful.{emptied}
-use Rattle.dx_node.specs.Stage.{commit}
+use Rattle.dx_node.specs.Stage.{emptied, commit}
 use Rattle.dx_scenario.specs.declared.event.Event.{Event}
 use Rattle.dx_scenario.specs.declared.event.Event.TheVariants as events
+use Rattle.dx_scenario.specs.Events.{word_of}
 use Rattle.dx_print.specs.declared.answer.Answer.{Answer}
 use Rattle.dx_print.specs.declared.answer.Answer.TheVariants as answers
 use Rattle.dx_cluster.specs.Stored.{Stored}
-use Rattle.dx_cluster.specs.Acts.{check_answer, check_slot, commit_answer, commit_slot, balance_answer, tell_balance, tell_audit}
-use Rattle.dx_cluster.specs.World.{World, node_acts, act_at, word_of, acted, step}
-use Rattle.dx_cluster.specs.Laws.{IsFold, states_after, is_of_committed, AreAlike, CommittedRepliesAgree}
+use Rattle.dx_cluster.specs.Acts.{check_answer, check_slot, commit_answer, commit_slot, balance_answer, tell_balance, tell_filled, tell_audit}
+use Rattle.dx_cluster.specs.World.{World, node_acts, act_at, acted, step}
+use Rattle.dx_cluster.specs.Laws.{IsFold, states_after, is_of_committed, AreAlike, committed_amount, CommittedRepliesAgree}
 use Rattle.dx_cluster.proofs.Keeping.{only_commits_count}
 
 -- two nodes, where both are there, have the same committed state
@@ -104,16 +105,33 @@ later_slots w v (events.Balance node who) a t = both_stay w v node (tell_balance
 later_slots w v (events.Audit node) a t = both_stay w v node tell_audit tell_audit a
 later_slots w v event a t = absurd (cc)
 
+-- alike worlds stay so at an event that leaves both slots the same
+later_alike : (w v : World) (event : Event) → All IsFold w.nodes → All IsFold v.nodes → AreAlike w v → (step w event).0.slots ≡ (step v event).0.slots → AreAlike (step w event).0 (step v event).0
+later_alike w v event h k a slots = record {
+  states =
+      only_commits_count w event h
+      ∙ ap (λ ss. states_after ss w.slots event) a.states
+      ∙ ap (λ (m : Stored). states_after (map committed v.nodes) m event) a.slots
+      ∙ sym (only_commits_count v event k);
+  slots = slots;
+}
+
+-- the committed amount that a node tells of an order
+same_amount : (w v : World) (o u : Option Node) (node : ℕ) (id : OrderId) → SameState o u → committed_amount (node_acts w o node (tell_filled id)).1 ≡ committed_amount (node_acts v u node (tell_filled id)).1
+same_amount w v None None node id h = refl
+same_amount w v (Some p) (Some q) node id h = ap (λ s. Some (filled_of s id)) h
+same_amount w v None (Some q) node id h = absurd h
+same_amount w v (Some p) None node id h = absurd h
+
 -- alike worlds agree on what is committed
 pub committed_replies_agree : CommittedRepliesAgree
-committed_replies_agree w v event h k a t = (
-  ap (λ (answer : Answer). record { word = word_of event; answer = answer }) (answers_agree w v event a t),
-  record {
-    states =
-        only_commits_count w event h
-        ∙ ap (λ ss. states_after ss w.slots event) a.states
-        ∙ ap (λ (m : Stored). states_after (map committed v.nodes) m event) a.slots
-        ∙ sym (only_commits_count v event k);
-    slots = later_slots w v event a t;
-  },
+committed_replies_agree w v h k a = (
+  λ event t. (
+    ap (λ (answer : Answer). record { word = word_of event; answer = answer }) (answers_agree w v event a t),
+    later_alike w v event h k a (later_slots w v event a t),
+  ),
+  λ node id. (
+    same_amount w v (slice_get w.nodes node) (slice_get v.nodes node) node id (same_state w.nodes v.nodes node a.states),
+    later_alike w v (events.Filled node id) h k a (both_stay w v node (tell_filled id) (tell_filled id) a),
+  ),
 )

@@ -14,15 +14,17 @@ use Rattle.dx_spec.specs.Genesis.{IsGenesis}
 use Rattle.dx_laws.proofs.Auditing.{balance_shown}
 use Rattle.dx_sound.proofs.Both.{blocks_are_sound}
 use Rattle.dx_node_spec.specs.Node.{Node, new_node, committed}
-use Rattle.dx_node_spec.specs.Placing.{Refusal}
-use Rattle.dx_node.specs.Stage.{propose}
+use Rattle.dx_node_spec.specs.Placing.{Refusal, place}
+use Rattle.dx_node_spec.specs.Events.{fed, cancel, cancel_all}
+use Rattle.dx_speculation.specs.NodeEvents.{NodeEvent, Placing, Cancelling, CancellingAll, Feeding, IsNoCommit, after as node_after}
+use Rattle.dx_node_spec.specs.Proposals.{propose}
 use Rattle.dx_scenario.specs.declared.event.Event.{Event}
 use Rattle.dx_scenario.specs.declared.event.Event.TheVariants as events
 use Rattle.dx_print.specs.declared.answer.Answer.{Answer}
-use Rattle.dx_cluster.specs.Acts.{place_order, feed_price, check_slot, commit_slot, tell_balance, tell_speculative, tell_filled, tell_best, tell_audit}
+use Rattle.dx_cluster.specs.Acts.{place_order, cancel_order, cancel_orders, feed_price, check_slot, commit_slot, tell_balance, tell_speculative, tell_filled, tell_best, tell_audit}
 use Rattle.dx_cluster.specs.World.{World, world_of, node_acts, put_proposal, node_proposes, step}
-use Rattle.dx_cluster.specs.Laws.{IsFold, FoldsStayGood, after_block, OnlyCommitsCount, after, IsInBalance, StatesBalance, ProposalsAreGood}
-use Rattle.dx_cluster.proofs.Living.{FoldsTo, placing_folds, feeding_folds, committing_folds, new_folds, Lives, placing_lives, feeding_lives, committing_lives, new_lives, proposes_good}
+use Rattle.dx_cluster.specs.Laws.{IsFold, FoldsStayGood, after_block, OnlyCommitsCount, after, IsInBalance, StatesBalance, NodesAreInOrder, PlacingsStopByRisk, ProposalsAreGood}
+use Rattle.dx_cluster.proofs.Living.{FoldsTo, folds_by, placed_node, cancelled_node, all_cancelled_node, fed_node, placing_folds, cancelling_folds, all_cancelling_folds, feeding_folds, committing_folds, new_folds, Lives, lives_by, committing_lives, new_lives, in_order, stops_by_risk, proposes_good}
 
 -- a proposal changes no node
 put_nodes : (w : World) (slot : ℕ) (r : Result Block Refusal) → (put_proposal w slot r).0.nodes ≡ w.nodes
@@ -52,20 +54,22 @@ module _ (P : Node → Type 0) where
       let made : ℕ → Node = λ number. new_node number g in
       λ n d lt. subst P (sym (get_or-map-range_with_len made 0 nodes n n d (subst (λ k. n < k) (length-map-range_with_len made 0 nodes) lt) (omega arith))) (h n)
 
-  -- what orders, prices and commits keep of a node, every event keeps
-  stepped : ((o : Order) (p : Node) → P p → P (place_order o p).0) → ((market price : ℕ) (p : Node) → P p → P (feed_price market price p).0) → ((o : Option Block) (p : Node) → P p → P (commit_slot o p).0)
+  -- what everything that happens at a node keeps of it, every event keeps
+  stepped : ((p : Node) (event : NodeEvent) → IsNoCommit event → P p → P (node_after p event)) → ((o : Option Block) (p : Node) → P p → P (commit_slot o p).0)
       → (w : World) (event : Event) → All P w.nodes → All P (step w event).0.nodes
-  stepped placed fed committed w (events.Place node order) h = acted_at w node (place_order order) (slice_get w.nodes node) refl h (placed order)
-  stepped placed fed committed w (events.Feed node market price) h = acted_at w node (feed_price market price) (slice_get w.nodes node) refl h (fed market price)
-  stepped placed fed committed w (events.Propose node slot time) h = subst (All P) (sym (propose_nodes w (slice_get w.nodes node) slot time)) h
-  stepped placed fed committed w (events.Check node slot) h = acted_at w node (check_slot (get w.slots slot)) (slice_get w.nodes node) refl h (λ p g. g)
-  stepped placed fed committed w (events.Commit node slot) h = acted_at w node (commit_slot (get w.slots slot)) (slice_get w.nodes node) refl h (committed (get w.slots slot))
-  stepped placed fed committed w (events.Balance node who) h = acted_at w node (tell_balance who) (slice_get w.nodes node) refl h (λ p g. g)
-  stepped placed fed committed w (events.Spec node who) h = acted_at w node (tell_speculative who) (slice_get w.nodes node) refl h (λ p g. g)
-  stepped placed fed committed w (events.Filled node id) h = acted_at w node (tell_filled id) (slice_get w.nodes node) refl h (λ p g. g)
-  stepped placed fed committed w (events.Best node market) h = acted_at w node (tell_best market) (slice_get w.nodes node) refl h (λ p g. g)
-  stepped placed fed committed w (events.Audit node) h = acted_at w node tell_audit (slice_get w.nodes node) refl h (λ p g. g)
-  stepped placed fed committed w event h = h
+  stepped kept committed w (events.Place node order) h = acted_at w node (place_order order) (slice_get w.nodes node) refl h (λ p g. subst P (placed_node p (place p order)) (kept p (Placing order) tt g))
+  stepped kept committed w (events.Cancel node id until) h = acted_at w node (cancel_order id until) (slice_get w.nodes node) refl h (λ p g. subst P (cancelled_node p (cancel p id until)) (kept p (Cancelling id until) tt g))
+  stepped kept committed w (events.CancelAll node who) h = acted_at w node (cancel_orders who) (slice_get w.nodes node) refl h (λ p g. subst P (all_cancelled_node p (cancel_all p who)) (kept p (CancellingAll who) tt g))
+  stepped kept committed w (events.Feed node market price) h = acted_at w node (feed_price market price) (slice_get w.nodes node) refl h (λ p g. subst P (fed_node p (fed p market price)) (kept p (Feeding market price) tt g))
+  stepped kept committed w (events.Propose node slot time) h = subst (All P) (sym (propose_nodes w (slice_get w.nodes node) slot time)) h
+  stepped kept committed w (events.Check node slot) h = acted_at w node (check_slot (get w.slots slot)) (slice_get w.nodes node) refl h (λ p g. g)
+  stepped kept committed w (events.Commit node slot) h = acted_at w node (commit_slot (get w.slots slot)) (slice_get w.nodes node) refl h (committed (get w.slots slot))
+  stepped kept committed w (events.Balance node who) h = acted_at w node (tell_balance who) (slice_get w.nodes node) refl h (λ p g. g)
+  stepped kept committed w (events.Spec node who) h = acted_at w node (tell_speculative who) (slice_get w.nodes node) refl h (λ p g. g)
+  stepped kept committed w (events.Filled node id) h = acted_at w node (tell_filled id) (slice_get w.nodes node) refl h (λ p g. g)
+  stepped kept committed w (events.Best node market) h = acted_at w node (tell_best market) (slice_get w.nodes node) refl h (λ p g. g)
+  stepped kept committed w (events.Audit node) h = acted_at w node tell_audit (slice_get w.nodes node) refl h (λ p g. g)
+  stepped kept committed w event h = h
 
   -- and so do all events
   ran : ((w : World) (event : Event) → All P w.nodes → All P (step w event).0.nodes) → (w : World) (es : List Event) → All P w.nodes → All P (after w es).nodes
@@ -76,7 +80,7 @@ module _ (P : Node → Type 0) where
 pub folds_stay_good : FoldsStayGood
 folds_stay_good = (
   λ nodes g. first_nodes IsFold nodes g (λ number. new_folds number g),
-  stepped IsFold (λ o p h. (placing_folds o p h).0) (λ market price p h. (feeding_folds market price p h).0) (λ o p h. (committing_folds o p h).0),
+  stepped IsFold (λ p event other h. (folds_by p event other h).0) (λ o p h. (committing_folds o p h).0),
 )
 
 -- the states where the state of one node comes to be another
@@ -114,6 +118,8 @@ commit_changes w node b (Some p) e h = state_set w.nodes node p (commit_slot b p
 -- nothing but a commit changes a committed state
 pub only_commits_count : OnlyCommitsCount
 only_commits_count w (events.Place node order) h = act_stays w node (place_order order) (slice_get w.nodes node) refl h (placing_folds order)
+only_commits_count w (events.Cancel node id until) h = act_stays w node (cancel_order id until) (slice_get w.nodes node) refl h (cancelling_folds id until)
+only_commits_count w (events.CancelAll node who) h = act_stays w node (cancel_orders who) (slice_get w.nodes node) refl h (all_cancelling_folds who)
 only_commits_count w (events.Feed node market price) h = act_stays w node (feed_price market price) (slice_get w.nodes node) refl h (feeding_folds market price)
 only_commits_count w (events.Propose node slot time) h = ap (map committed) (propose_nodes w (slice_get w.nodes node) slot time)
 only_commits_count w (events.Commit node slot) h = commit_changes w node (get w.slots slot) (slice_get w.nodes node) refl h
@@ -127,7 +133,7 @@ only_commits_count w event h = refl
 
 -- every node of a run lives
 all_live : (nodes : ℕ) (g : Genesis) (es : List Event) → IsGenesis g → All Lives (after (world_of nodes g) es).nodes
-all_live nodes g es h = ran Lives (stepped Lives placing_lives feeding_lives committing_lives) (world_of nodes g) es (first_nodes Lives nodes g (λ number. new_lives number g h))
+all_live nodes g es h = ran Lives (stepped Lives lives_by committing_lives) (world_of nodes g) es (first_nodes Lives nodes g (λ number. new_lives number g h))
 
 -- the state of good blocks from a genesis in its ranges
 in_balance : (p : Node) → Lives p → IsInBalance (committed p)
@@ -138,6 +144,14 @@ in_balance p h =
 -- each committed state of a run is sound and balanced
 pub states_balance : StatesBalance
 states_balance nodes g es h = λ n d lt. in_balance _ (all_live nodes g es h n d lt)
+
+-- no state of a run comes from a default
+pub nodes_are_in_order : NodesAreInOrder
+nodes_are_in_order nodes g es h = λ n d lt. in_order _ (all_live nodes g es h n d lt)
+
+-- and no placing is stopped by another code
+pub placings_stop_by_risk : PlacingsStopByRisk
+placings_stop_by_risk nodes g es h = λ n d lt o. stops_by_risk _ o (all_live nodes g es h n d lt)
 
 -- and what each node proposes is good
 pub proposals_are_good : ProposalsAreGood

@@ -1,6 +1,6 @@
-pub mod Storing
 pub mod Counts
 pub mod Worlds
 pub mod Living
 pub mod Keeping
 pub mod Agreeing
+pub mod Counting

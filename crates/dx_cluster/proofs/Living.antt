@@ -1,64 +1,86 @@
 -- What stays so of a node whatever happens at it.
-use Rattle.std.proofs.Common.{◌≡◌, ℕ, false, not, ◌&&◌, ◌||◌, List, [], ◌∷◌, ◌++◌, Option, Some, None, Result, Ok, Err, refl, sym, ap, subst, ◌∙◌}
-use Rattle.std.specs.Prelude.{is_some, nat_lt, nat_le, length, if◌then◌else◌}
+use Rattle.std.proofs.Common.{◌≡◌, ℕ, Bool, List, [], ◌∷◌, ◌++◌, Option, Some, None, Result, Ok, Err, refl, sym, ap, subst, ◌∙◌}
 use Rattle.std.specs.Result.{result_unwrap_or}
-use Rattle.std.specs.Option.{option_map_or}
-use Rattle.std.specs.FinMap.{FinMap, get, insert, empty, get-empty}
-use Rattle.dx_types.specs.Keys.{order_id_cmp}
+use Rattle.dx_types.specs.declared.SubaccountId.{SubaccountId}
+use Rattle.dx_types.specs.declared.OrderId.{OrderId}
 use Rattle.dx_types.specs.declared.Order.{Order}
-use Rattle.dx_types.specs.declared.Op.{Op}
 use Rattle.dx_types.specs.declared.Block.{Block}
 use Rattle.dx_types.specs.declared.Bad.{Bad}
 use Rattle.dx_types.specs.declared.Genesis.{Genesis}
-use Rattle.dx_spec.specs.Step.{◌>>=◌, fail_as}
-use Rattle.dx_spec.specs.State.{State, genesis_state, is_kept, filled_of}
+use Rattle.dx_spec.specs.Step.{◌>>=◌}
+use Rattle.dx_spec.specs.State.{State, genesis_state}
 use Rattle.dx_spec.specs.Genesis.{IsGenesis}
-use Rattle.dx_spec.specs.Bounds.{is_price}
-use Rattle.dx_spec.specs.Orders.{check_form, is_filled_up}
-use Rattle.dx_spec.specs.Refusals.{already_filled}
-use Rattle.dx_spec.specs.Blocks.{block_step, fold_from}
-use Rattle.dx_spec.proofs.Steps.{ok_same, refuse_then}
-use Rattle.dx_spec.proofs.Scripts.{passes, unit_passes, some_passes, stage_passes, pass, unit_next}
-use Rattle.dx_node_spec.specs.Refusals.{not_newer, post_only_cross, queue_full, unknown_market, bad_price}
-use Rattle.dx_node_spec.specs.Book.{resting, without}
-use Rattle.dx_node_spec.specs.Queue.{placed_by}
-use Rattle.dx_node_spec.specs.Taking.{take_order}
-use Rattle.dx_node_spec.specs.Node.{Node, new_node, next_height, committed, speculative}
-use Rattle.dx_node_spec.specs.Placing.{Outcome, Refusal, refusal, is_newer_than, cancelled_until, no_cancel, would_cross, with_taken, settle_order, taken_on, check_place as whole_check, place as whole_place}
-use Rattle.dx_node_spec.specs.Events.{fed}
-use Rattle.dx_speculation.specs.Faithful.{IsFaithful, emptied}
-use Rattle.dx_speculation.proofs.Nodes.{fold_more, new_node_is_faithful, emptied_is_faithful}
-use Rattle.dx_speculation.proofs.Placing.{placing_keeps_faithful}
-use Rattle.dx_speculation.proofs.Events.{feeding_keeps_faithful}
-use Rattle.dx_node.specs.Stage.{commit, is_known, check_place, place}
-use Rattle.dx_node.specs.Stages.{goes_to, with_rest}
-use Rattle.dx_node.proofs.Taking.{settle_is}
-use Rattle.dx_node.proofs.Plain.{good_is_proposed}
-use Rattle.dx_cluster.specs.Acts.{place_answer, place_order, feed_answer, feed_price, commit_answer, commit_slot}
-use Rattle.dx_cluster.specs.Laws.{IsFold, state_or, after_block, ProposesGood}
+use Rattle.dx_spec.specs.Blocks.{block_step, fold_blocks, fold_from}
+use Rattle.dx_spec.proofs.Steps.{ok_same}
+use Rattle.dx_spec.proofs.Scripts.{stage_passes}
+use Rattle.dx_node_spec.specs.Node.{Node, new_node, committed, speculative}
+use Rattle.dx_node_spec.specs.Placing.{Outcome, AllFilled, Rested, Dropped, Stopped, Refusal, place}
+use Rattle.dx_node_spec.specs.Events.{fed, cancel, cancel_all}
+use Rattle.dx_speculation.specs.Faithful.{IsFaithful}
+use Rattle.dx_speculation.specs.NodeEvents.{NodeEvent, Placing, Cancelling, CancellingAll, Feeding, IsNoCommit, node_of, itself_or, after as node_after}
+use Rattle.dx_speculation.proofs.Nodes.{fold_more, new_node_is_faithful}
+use Rattle.dx_speculation.proofs.Events.{speculative_is_sound}
+use Rattle.dx_speculation.proofs.NodeEvents.{every_event_keeps_faithful}
+use Rattle.dx_speculation.proofs.Roots.{other_events_keep_blocks}
+use Rattle.dx_speculation.proofs.Stopping.{placing_stops_by_risk}
+use Rattle.dx_node.specs.Stage.{emptied, commit}
+use Rattle.dx_node.proofs.Emptied.{emptied_is_faithful}
+use Rattle.dx_speculation.proofs.Proposals.{proposal_is_good}
+use Rattle.dx_cluster.specs.Acts.{outcome_answer, place_answer, place_order, cancel_answer, cancel_order, cancel_all_answer, cancel_orders, feed_answer, feed_price, commit_answer, commit_slot}
+use Rattle.dx_cluster.specs.Laws.{IsFold, state_or, after_block, IsInOrder, StopsByRisk, ProposesGood}
+
+-- the committed state of a node and its fold, where the committed state comes to be another
+abbrev pub FoldsTo : Node → State → Type 0
+FoldsTo p s = IsFold p × (committed p ≡ s)
+
+-- what happens at a node but a commit leaves its blocks and their fold
+pub folds_by : (p : Node) (event : NodeEvent) → IsNoCommit event → IsFold p → FoldsTo (node_after p event) (committed p)
+folds_by p event other h =
+    let q = node_after p event in
+    let k = other_events_keep_blocks p event other in (
+      record {
+        base = k.0.base ∙ h.base ∙ ap genesis_state (sym k.0.genesis);
+        folded = ap (λ g. fold_blocks g q.blocks) k.0.genesis ∙ ap (fold_blocks p.genesis) k.0.blocks ∙ h.folded ∙ ap Ok (sym k.1);
+      },
+      k.1,
+    )
+
+-- the node after a placing
+pub placed_node : (p : Node) (r : Result (Node × Outcome) Refusal) → node_of p r ≡ (place_answer p r).0
+placed_node p (Ok q) = refl
+placed_node p (Err cause) = refl
+
+-- the node after a cancel
+pub cancelled_node : (p : Node) (r : Result (Node × Bool) Refusal) → node_of p r ≡ (cancel_answer p r).0
+cancelled_node p (Ok q) = refl
+cancelled_node p (Err cause) = refl
+
+-- the node after the cancels of an account's orders
+pub all_cancelled_node : (p : Node) (r : Result (Node × ℕ) Refusal) → node_of p r ≡ (cancel_all_answer p r).0
+all_cancelled_node p (Ok q) = refl
+all_cancelled_node p (Err cause) = refl
+
+-- the node after a price
+pub fed_node : (p : Node) (r : Result Node Refusal) → itself_or p r ≡ (feed_answer p r).0
+fed_node p (Ok q) = refl
+fed_node p (Err cause) = refl
+
+pub placing_folds : (o : Order) (p : Node) → IsFold p → FoldsTo (place_order o p).0 (committed p)
+placing_folds o p h = subst (λ x. FoldsTo x (committed p)) (placed_node p (place p o)) (folds_by p (Placing o) tt h)
+
+pub cancelling_folds : (id : OrderId) (until : ℕ) (p : Node) → IsFold p → FoldsTo (cancel_order id until p).0 (committed p)
+cancelling_folds id until p h = subst (λ x. FoldsTo x (committed p)) (cancelled_node p (cancel p id until)) (folds_by p (Cancelling id until) tt h)
+
+pub all_cancelling_folds : (who : SubaccountId) (p : Node) → IsFold p → FoldsTo (cancel_orders who p).0 (committed p)
+all_cancelling_folds who p h = subst (λ x. FoldsTo x (committed p)) (all_cancelled_node p (cancel_all p who)) (folds_by p (CancellingAll who) tt h)
+
+pub feeding_folds : (market price : ℕ) (p : Node) → IsFold p → FoldsTo (feed_price market price p).0 (committed p)
+feeding_folds market price p h = subst (λ x. FoldsTo x (committed p)) (fed_node p (fed p market price)) (folds_by p (Feeding market price) tt h)
 
 -- a stage fails as the one before it
 stage_fails : {A B E : Type 0} (r : Result A E) (f : A → B) (code : E) → (r >>= λ x. Ok (f x)) ≡ Err code → r ≡ Err code
 stage_fails (Ok x) f code e = absurd (cc)
 stage_fails (Err c) f code e = let same : c ≡ code = cc in ap Err same
-
--- an order that is placed changes the queue and the book
-placed_is : (p : Node) (o : Order) (q : Node × Outcome) → place p o ≡ Ok q → (queue : List Op) × (book : List Order) × (q.0 ≡ record p { queue = queue; book = book })
-unfolding place taken_on
-placed_is p o q e =
-    let a = unit_passes (check_place p o) (taken_on p o) q e in
-    let b = some_passes (take_order (speculative p) p.book p.queue o) (refusal queue_full) (λ t. settle_order (with_taken (record p { book = without p.book o.id }) t) o t) q a.1 in
-    let node : Node = with_taken (record p { book = without p.book o.id }) b.0 in
-    let d = stage_passes (goes_to node.book o b.0) (λ u. Ok (record node { book = with_rest node.book o u }, u)) q (sym (settle_is node o b.0) ∙ b.2) in
-    (node.queue, with_rest node.book o d.0, ap (λ (r : Node × Outcome). r.0) (sym (ok_same _ q d.2)))
-
--- a price that is fed changes the fed prices
-fed_is : (p q : Node) (market price : ℕ) → fed p market price ≡ Ok q → q ≡ record p { feed = insert p.feed market price }
-unfolding fed
-fed_is p q market price e =
-    let a = refuse_then (refusal unknown_market) (not (nat_lt market (length p.genesis.params.markets))) _ q e in
-    let b = refuse_then (refusal bad_price) (not (is_price price)) (Ok (record p { feed = insert p.feed market price })) q a in
-    sym (ok_same (record p { feed = insert p.feed market price }) q b)
 
 -- a good block is the last of the node
 commit_is : (p : Node) (b : Block) (q : Node × List ℕ) → commit p b ≡ Ok q → (r : State × List ℕ) × (block_step (committed p) b ≡ Ok r) × (q.0 ≡ emptied p b)
@@ -72,16 +94,6 @@ commit_bad : (p : Node) (b : Block) (bad : Bad) → commit p b ≡ Err bad → b
 unfolding commit
 commit_bad p b bad e = stage_fails (block_step (committed p) b) (λ r. (emptied p b, r.1)) bad e
 
--- the queue and the book are in no committed state
-beside : (p : Node) (queue : List Op) (book : List Order) → IsFold p → IsFold (record p { queue = queue; book = book }) × (committed (record p { queue = queue; book = book }) ≡ committed p)
-unfolding committed
-beside p queue book h = (record { base = h.base; folded = h.folded }, refl)
-
--- nor are the fed prices
-beside_fed : (p : Node) (market price : ℕ) → IsFold p → IsFold (record p { feed = insert p.feed market price }) × (committed (record p { feed = insert p.feed market price }) ≡ committed p)
-unfolding committed
-beside_fed p market price h = (record { base = h.base; folded = h.folded }, refl)
-
 -- a good block leads to the next one
 with_block : (p : Node) (b : Block) (r : State × List ℕ) → IsFold p → block_step (committed p) b ≡ Ok r → IsFold (emptied p b) × (committed (emptied p b) ≡ r.0)
 unfolding committed
@@ -89,24 +101,6 @@ with_block p b r h e =
     let f = fold_more (genesis_state p.genesis) p.blocks (committed p) b r h.folded e in
     let same : committed (emptied p b) ≡ r.0 = ap (λ s. result_unwrap_or (fold_from s (p.blocks ++ b ∷ [])) p.base) h.base ∙ ap (λ x. result_unwrap_or x p.base) f in
     (record { base = h.base; folded = f ∙ ap Ok (sym same) }, same)
-
--- the committed state of a node and its fold, where the committed state comes to be another
-abbrev pub FoldsTo : Node → State → Type 0
-FoldsTo p s = IsFold p × (committed p ≡ s)
-
-place_folds : (p : Node) (o : Order) (r : Result (Node × Outcome) Refusal) → place p o ≡ r → IsFold p → FoldsTo (place_answer p r).0 (committed p)
-place_folds p o (Ok q) e h = let d = placed_is p o q e in subst (λ x. FoldsTo x (committed p)) (sym d.2) (beside p d.0 d.1 h)
-place_folds p o (Err cause) e h = (h, refl)
-
-pub placing_folds : (o : Order) (p : Node) → IsFold p → FoldsTo (place_order o p).0 (committed p)
-placing_folds o p h = place_folds p o (place p o) refl h
-
-feed_folds : (p : Node) (market price : ℕ) (r : Result Node Refusal) → fed p market price ≡ r → IsFold p → FoldsTo (feed_answer p r).0 (committed p)
-feed_folds p market price (Ok q) e h = subst (λ x. FoldsTo x (committed p)) (sym (fed_is p q market price e)) (beside_fed p market price h)
-feed_folds p market price (Err cause) e h = (h, refl)
-
-pub feeding_folds : (market price : ℕ) (p : Node) → IsFold p → FoldsTo (feed_price market price p).0 (committed p)
-feeding_folds market price p h = feed_folds p market price (fed p market price) refl h
 
 commit_folds : (p : Node) (b : Block) (r : Result (Node × List ℕ) Bad) → commit p b ≡ r → IsFold p → FoldsTo (commit_answer p b r).0 (after_block (Some b) (committed p))
 commit_folds p b (Ok q) e h =
@@ -123,75 +117,21 @@ pub new_folds : (number : ℕ) (g : Genesis) → IsFold (new_node number g)
 unfolding new_node committed fold_from
 new_folds number g = record { base = refl; folded = refl }
 
--- a node of a genesis in its ranges that has kept no cancel
+-- a node of a genesis in its ranges
 pub record Lives (p : Node) : Type 0 where
   pub fold : IsFold p
   pub genesis : IsGenesis p.genesis
   pub faithful : IsFaithful p
-  pub cancels : p.cancels ≡ empty
 
--- an id of which nothing rests or is placed is newer
-newest : (o : Order) (a b : Option Order) → (is_some a || is_some b) ≡ false → not (is_newer_than o a && is_newer_than o b) ≡ false
-newest o None None e = refl
-newest o None (Some y) e = absurd (cc)
-newest o (Some x) b e = absurd (cc)
-
--- no cancel is kept
-uncancelled : (p : Node) (o : Order) → p.cancels ≡ empty → no_cancel (cancelled_until p o) ≡ Ok tt
-uncancelled p o e =
-    let until_of : Option ℕ → Option ℕ = λ kept. option_map_or (λ until. if nat_le o.until until then Some until else None) kept None in
-    ap (λ (m : FinMap order_id_cmp ℕ). no_cancel (until_of (get m o.id))) e ∙ ap (λ kept. no_cancel (until_of kept)) (get-empty order_id_cmp o.id)
-
--- where no cancel is kept, what passes the tests here passes all
-passes_whole : (p : Node) (o : Order) → p.cancels ≡ empty → check_place p o ≡ Ok tt → whole_check p o ≡ Ok tt
-unfolding check_place whole_check
-passes_whole p o c e =
-    let t = speculative p in
-    let params = t.genesis.params in
-    let a = unit_passes (fail_as refusal (check_form params (is_kept t o.id.who) (next_height p) o)) _ tt e in
-    let b = passes (refusal not_newer) (is_known p o) _ tt a.1 in
-    let f = passes (refusal already_filled) (is_filled_up params (filled_of t o.id) o) _ tt b.1 in
-    let x = passes (refusal post_only_cross) (would_cross p o) _ tt f.1 in
-    unit_next (fail_as refusal (check_form params (is_kept t o.id.who) (next_height p) o)) _ a.0
-    ∙ pass (refusal not_newer) (not (is_newer_than o (resting p.book o.id) && is_newer_than o (get (placed_by p.queue) o.id))) _ (newest o (resting p.book o.id) (get (placed_by p.queue) o.id) b.0)
-    ∙ pass (refusal already_filled) (is_filled_up params (filled_of t o.id) o) _ f.0
-    ∙ unit_next (no_cancel (cancelled_until p o)) _ (uncancelled p o c)
-    ∙ pass (refusal post_only_cross) (would_cross p o) _ x.0
-
--- so what is placed here is placed by all tests
-placed_whole : (p : Node) (o : Order) (q : Node × Outcome) → p.cancels ≡ empty → place p o ≡ Ok q → whole_place p o ≡ Ok q
-unfolding place whole_place
-placed_whole p o q c e =
-    let a = unit_passes (check_place p o) (taken_on p o) q e in
-    unit_next (whole_check p o) (taken_on p o) (passes_whole p o c a.0) ∙ a.1
-
-place_lives : (p : Node) (o : Order) (r : Result (Node × Outcome) Refusal) → place p o ≡ r → Lives p → Lives (place_answer p r).0
-place_lives p o (Ok q) e h =
-    let d = placed_is p o q e in
+-- what happens at a node but a commit keeps it so
+pub lives_by : (p : Node) (event : NodeEvent) → IsNoCommit event → Lives p → Lives (node_after p event)
+lives_by p event other h =
+    let k = other_events_keep_blocks p event other in
     record {
-      fold = (place_folds p o (Ok q) e h.fold).0;
-      genesis = subst (λ (x : Node). IsGenesis x.genesis) (sym d.2) h.genesis;
-      faithful = placing_keeps_faithful p o q h.faithful (placed_whole p o q h.cancels e);
-      cancels = ap (λ (x : Node). x.cancels) d.2 ∙ h.cancels;
+      fold = (folds_by p event other h.fold).0;
+      genesis = subst IsGenesis (sym k.0.genesis) h.genesis;
+      faithful = every_event_keeps_faithful p event h.faithful;
     }
-place_lives p o (Err cause) e h = h
-
-pub placing_lives : (o : Order) (p : Node) → Lives p → Lives (place_order o p).0
-placing_lives o p h = place_lives p o (place p o) refl h
-
-feed_lives : (p : Node) (market price : ℕ) (r : Result Node Refusal) → fed p market price ≡ r → Lives p → Lives (feed_answer p r).0
-feed_lives p market price (Ok q) e h =
-    let d = fed_is p q market price e in
-    record {
-      fold = (feed_folds p market price (Ok q) e h.fold).0;
-      genesis = subst (λ (x : Node). IsGenesis x.genesis) (sym d) h.genesis;
-      faithful = feeding_keeps_faithful p q market price h.faithful e;
-      cancels = ap (λ (x : Node). x.cancels) d ∙ h.cancels;
-    }
-feed_lives p market price (Err cause) e h = h
-
-pub feeding_lives : (market price : ℕ) (p : Node) → Lives p → Lives (feed_price market price p).0
-feeding_lives market price p h = feed_lives p market price (fed p market price) refl h
 
 commit_lives : (p : Node) (b : Block) (r : Result (Node × List ℕ) Bad) → commit p b ≡ r → Lives p → Lives (commit_answer p b r).0
 commit_lives p b (Ok q) e h =
@@ -200,7 +140,6 @@ commit_lives p b (Ok q) e h =
       fold = (with_block p b d.0 h.fold d.1).0;
       genesis = h.genesis;
       faithful = emptied_is_faithful p b d.0 h.faithful d.1;
-      cancels = h.cancels;
     } in
     subst Lives (sym d.2) k
 commit_lives p b (Err bad) e h = h
@@ -211,8 +150,32 @@ committing_lives (Some b) p h = commit_lives p b (commit p b) refl h
 
 pub new_lives : (number : ℕ) (g : Genesis) → IsGenesis g → Lives (new_node number g)
 unfolding new_node
-new_lives number g h = record { fold = new_folds number g; genesis = h; faithful = new_node_is_faithful number g h; cancels = refl }
+new_lives number g h = record { fold = new_folds number g; genesis = h; faithful = new_node_is_faithful number g h }
+
+-- neither state of such a node comes from a default
+pub in_order : (p : Node) → Lives p → IsInOrder p
+in_order p h =
+    let both = speculative_is_sound p h.faithful in
+    record {
+      faithful = h.faithful;
+      sound = both.0;
+      balanced = both.2;
+    }
+
+-- a placing at such a node is stopped by risk or a bound alone
+outcome_stops : (p : Node) (o : Order) (q : Node) (u : Outcome) → place p o ≡ Ok (q, u) → IsFaithful p → StopsByRisk (outcome_answer u)
+outcome_stops p o q AllFilled e h = tt
+outcome_stops p o q (Rested filled) e h = tt
+outcome_stops p o q (Dropped filled) e h = tt
+outcome_stops p o q (Stopped filled code) e h = placing_stops_by_risk p o q filled code h e
+
+place_stops : (p : Node) (o : Order) (r : Result (Node × Outcome) Refusal) → place p o ≡ r → IsFaithful p → StopsByRisk (place_answer p r).1
+place_stops p o (Ok r) e h = outcome_stops p o r.0 r.1 e h
+place_stops p o (Err cause) e h = tt
+
+pub stops_by_risk : (p : Node) (o : Order) → Lives p → StopsByRisk (place_order o p).1
+stops_by_risk p o h = place_stops p o (place p o) refl h.faithful
 
 -- what such a node proposes is good
 pub proposes_good : (p : Node) → Lives p → ProposesGood p
-proposes_good p h time b e = good_is_proposed p time b h.faithful e
+proposes_good p h time b e = proposal_is_good p time b h.faithful e

@@ -6,33 +6,32 @@ use Rattle.std.specs.FinMap.{get, insert}
 use Rattle.std.proofs.lemmas.Slice.Zip.{AllZip-long}
 use Rattle.std.proofs.lemmas.List.{set-get_or, take_all}
 use Rattle.std.proofs.lemmas.List.FromFn.{map-range_with_len_more}
-use Rattle.dx_types.specs.declared.no_memory.NoMemory.{NoMemory as Refused}
+use Rattle.dx_types.specs.declared.no_memory.NoMemory.{NoMemory as OutOfMemory}
 use Rattle.dx_types.specs.declared.Block.{Block}
 use Rattle.dx_types.specs.declared.Genesis.{Genesis}
 use Rattle.dx_node_spec.specs.Node.{Node, new_node}
-use Rattle.dx_node_spec.specs.Placing.{refusal}
-use Rattle.dx_node.specs.declared.faults.ProposeFault.{ProposeFault}
-use Rattle.dx_node.specs.declared.faults.ProposeFault.TheVariants as proposals
-use Rattle.dx_node.specs.Faults.{propose_number, ProposeRefused}
+use Rattle.dx_node_spec.specs.Placing.{Refusal}
+use Rattle.dx_node.specs.declared.refusal.Refusal.{Refusal as Cause}
+use Rattle.dx_node.specs.Faults.{IsRefused}
 use Rattle.dx_node.specs.Held.{Held}
-use Rattle.dx_node.specs.Stage.{propose}
+use Rattle.dx_node_spec.specs.Proposals.{propose}
 use Rattle.dx_node.specs.Standing.{StandsFor}
-use Rattle.dx_print.specs.declared.replies.Word.{Word}
+use Rattle.dx_print.specs.declared.words.Word.{Word}
 use Rattle.dx_print.specs.declared.answer.Answer.{Answer}
 use Rattle.dx_print.specs.declared.answer.Answer.TheVariants as answers
 use Rattle.dx_cluster.specs.declared.cluster.Cluster.{Cluster}
 use Rattle.dx_cluster.specs.Stored.{Stored}
 use Rattle.dx_cluster.specs.Acts.{height_of, refused}
-use Rattle.dx_cluster.specs.Refusals.{AnswersPropose}
+use Rattle.dx_cluster.specs.Refusals.{AnswersCause, cause_answer}
 use Rattle.dx_cluster.specs.World.{World, node_acts, act_at, proposed, put_proposal, node_proposes, propose_at, replied, Stands, Acts, HasActed, IsDone}
 
 -- there was no memory for an answer
-no_answer : (P : Answer → Type 0) (result : Result Answer Refused) → IsErr result → IfOk result P
+no_answer : (P : Answer → Type 0) (result : Result Answer OutOfMemory) → IsErr result → IfOk result P
 no_answer P (Ok a) h = absurd (cc)
 no_answer P (Err e) h = tt
 
 -- there is just one answer
-one_answer : (P : Answer → Type 0) (result : Result Answer Refused) (a : Answer) → result ≡ Ok a → P a → IfOk result P
+one_answer : (P : Answer → Type 0) (result : Result Answer OutOfMemory) (a : Answer) → result ≡ Ok a → P a → IfOk result P
 one_answer P result a e h = subst (λ r. IfOk r P) (sym e) h
 
 module _ {A B : Type 0} (R : A → B → Type 0) where
@@ -138,20 +137,25 @@ has_proposed c d w node slot time h b answer st l o f a ns ss =
     subst (λ (x : World × Answer). HasActed x d answer) (sym did) (record { answered = a; stands = stands })
 
 -- a node was not to propose
-not_proposed : (c : Cluster) (node slot time : ℕ) (h : Held) (number : ℕ) (result : Result Answer Refused) → node < length c.nodes.items → h ≡ get_or c.nodes.items node h → ((p : Node) → StandsFor h p → propose p time ≡ Err (refusal number))
-    → result ≡ Ok (refused (refusal number)) → IfOk result (λ answer. (w : World) → Stands c w → HasActed (propose_at w node slot time) c answer)
-not_proposed c node slot time h number result l o r a =
-    one_answer (λ answer. (w : World) → Stands c w → HasActed (propose_at w node slot time) c answer) result (refused (refusal number)) a
+pub has_not_proposed : (c : Cluster) (node slot time : ℕ) (h : Held) (cause : Option Cause) (result : Result Answer OutOfMemory) → node < length c.nodes.items → h ≡ get_or c.nodes.items node h → ((p : Node) → StandsFor h p → IsRefused (propose p time) cause)
+    → AnswersCause cause result → IfOk result (λ answer. (w : World) → Stands c w → HasActed (propose_at w node slot time) c answer)
+has_not_proposed c node slot time h None result l o r a = no_answer (λ answer. (w : World) → Stands c w → HasActed (propose_at w node slot time) c answer) result a
+has_not_proposed c node slot time h (Some cause) result l o r a =
+    one_answer (λ answer. (w : World) → Stands c w → HasActed (propose_at w node slot time) c answer) result (cause_answer cause) a
     (λ w st.
     let p = found StandsFor c.nodes.items w.nodes node st.nodes l in
-    let did : propose_at w node slot time ≡ (w, refused (refusal number)) = ap (λ q. node_proposes w q slot time) p.1 ∙ ap (put_proposal w slot) (r p.0 (p.2 h o)) in
-    subst (λ (x : World × Answer). HasActed x c (refused (refusal number))) (sym did) (record { answered = refl; stands = st }))
+    let did : propose_at w node slot time ≡ (w, cause_answer cause) = ap (λ q. node_proposes w q slot time) p.1 ∙ ap (put_proposal w slot) (r p.0 (p.2 h o)) in
+    subst (λ (x : World × Answer). HasActed x c (cause_answer cause)) (sym did) (record { answered = refl; stands = st }))
 
-pub has_not_proposed : (c : Cluster) (node slot time : ℕ) (h : Held) (fault : ProposeFault) (result : Result Answer Refused) → node < length c.nodes.items → h ≡ get_or c.nodes.items node h → ((p : Node) → StandsFor h p → ProposeRefused (propose p time) fault)
-    → AnswersPropose fault result → IfOk result (λ answer. (w : World) → Stands c w → HasActed (propose_at w node slot time) c answer)
-has_not_proposed c node slot time h proposals.NoMemory result l o r a = no_answer (λ answer. (w : World) → Stands c w → HasActed (propose_at w node slot time) c answer) result a
-has_not_proposed c node slot time h proposals.WrongTime result l o r a = not_proposed c node slot time h (propose_number proposals.WrongTime) result l o r a
-has_not_proposed c node slot time h proposals.LastHeight result l o r a = not_proposed c node slot time h (propose_number proposals.LastHeight) result l o r a
+-- a node refused something, and is as before
+pub has_refused : {X : Type 0} (step : Node → Result X Refusal) (told : Node → Result X Refusal → Node × Answer) (old new : Held) (cause : Option Cause) (result : Result Answer OutOfMemory) → ((p : Node) (c : Refusal) → told p (Err c) ≡ (p, refused c)) → new ≡ old
+    → ((p : Node) → StandsFor old p → IsRefused (step p) cause) → AnswersCause cause result → IfOk result (λ answer. Acts (λ p. told p (step p)) old new answer)
+has_refused step told old new None result t e r a = no_answer (λ answer. Acts (λ p. told p (step p)) old new answer) result a
+has_refused step told old new (Some cause) result t e r a =
+    one_answer (λ answer. Acts (λ p. told p (step p)) old new answer) result (cause_answer cause) a
+    (λ p st.
+    let did : told p (step p) ≡ (p, cause_answer cause) = ap (told p) (r p st) ∙ t p (record { number = cause.number; value = cause.value }) in
+    subst (λ (x : Node × Answer). StandsFor new x.0 × (cause_answer cause ≡ x.1)) (sym did) (subst (λ h. StandsFor h p) (sym e) st, refl))
 
 -- an event is done, and its word stands before the answer
 pub is_done : (r : World × Answer) (word : Word) (c : Cluster) (answer : Answer) → HasActed r c answer → IsDone (replied word r) c (record { word = word; answer = answer })

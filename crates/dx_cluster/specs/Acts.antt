@@ -1,5 +1,5 @@
 -- What one node does at an event, and its answer.
-use Rattle.std.specs.Prelude.{ℕ, List, [], ◌∷◌, Option, Some, None, Result, Ok, Err}
+use Rattle.std.specs.Prelude.{ℕ, Bool, if◌then◌else◌, List, [], ◌∷◌, Option, Some, None, Result, Ok, Err}
 use Rattle.dx_types.specs.declared.SubaccountId.{SubaccountId}
 use Rattle.dx_types.specs.declared.OrderId.{OrderId}
 use Rattle.dx_types.specs.declared.Order.{Order}
@@ -11,10 +11,10 @@ use Rattle.dx_spec.specs.Blocks.{block_step}
 use Rattle.dx_spec.specs.Audits.{audit}
 use Rattle.dx_node_spec.specs.Refusals.{unknown_market}
 use Rattle.dx_node_spec.specs.Node.{Node, committed}
-use Rattle.dx_node_spec.specs.Placing.{Outcome, AllFilled, Rested, Dropped, Stopped, Refusal, refusal}
-use Rattle.dx_node_spec.specs.Events.{fed}
+use Rattle.dx_node_spec.specs.Placing.{Outcome, AllFilled, Rested, Dropped, Stopped, Refusal, refusal, place}
+use Rattle.dx_node_spec.specs.Events.{fed, cancel, cancel_all}
 use Rattle.dx_node_spec.specs.Reads as tells
-use Rattle.dx_node.specs.Stage.{commit, place}
+use Rattle.dx_node.specs.Stage.{commit}
 use Rattle.dx_print.specs.declared.answer.Answer.{Answer}
 use Rattle.dx_print.specs.declared.answer.Answer.TheVariants as answers
 
@@ -41,6 +41,24 @@ place_answer p (Err cause) = (p, refused cause)
 -- a node takes an order
 abbrev pub place_order : Order → Node → Node × Answer
 place_order o p = place_answer p (place p o)
+
+-- the node after a cancel, and 1 where a resting order left for it, else 0; or the refusal, which changes nothing
+abbrev pub cancel_answer : Node → Result (Node × Bool) Refusal → Node × Answer
+cancel_answer p (Ok r) = (r.0, answers.Done (Some (if r.1 then 1 else 0)))
+cancel_answer p (Err cause) = (p, refused cause)
+
+-- a node cancels a short-term order
+abbrev pub cancel_order : OrderId → ℕ → Node → Node × Answer
+cancel_order id until p = cancel_answer p (cancel p id until)
+
+-- the node after the cancels, and how many there were; or the refusal, which changes nothing
+abbrev pub cancel_all_answer : Node → Result (Node × ℕ) Refusal → Node × Answer
+cancel_all_answer p (Ok r) = (r.0, answers.Done (Some r.1))
+cancel_all_answer p (Err cause) = (p, refused cause)
+
+-- a node cancels the resting short-term orders of an account
+abbrev pub cancel_orders : SubaccountId → Node → Node × Answer
+cancel_orders who p = cancel_all_answer p (cancel_all p who)
 
 -- the node with the price, or the refusal, which changes nothing
 abbrev pub feed_answer : Node → Result Node Refusal → Node × Answer

@@ -1,22 +1,29 @@
 -- What holds in every world.
-use Rattle.std.specs.Prelude.{◌≡◌, ℕ, Bool, true, false, IsTrue, List, [], ◌∷◌, map, Option, Some, None, Result, Ok, Err, All}
+use Rattle.std.specs.Prelude.{◌≡◌, ◌⊎◌, ⊤, ℕ, Bool, true, false, IsTrue, List, [], ◌∷◌, map, Option, Some, None, Result, Ok, Err, All}
 use Rattle.std.specs.FinMap.{get}
 use Rattle.dx_types.specs.declared.Genesis.{Genesis}
+use Rattle.dx_types.specs.declared.Order.{Order}
+use Rattle.dx_types.specs.declared.OrderId.{OrderId}
 use Rattle.dx_types.specs.declared.Block.{Block}
 use Rattle.dx_types.specs.declared.Bad.{Bad}
 use Rattle.dx_spec.specs.Lists.{changed_at}
 use Rattle.dx_spec.specs.State.{State, genesis_state}
 use Rattle.dx_spec.specs.Genesis.{IsGenesis}
 use Rattle.dx_spec.specs.Blocks.{block_step, fold_blocks}
+use Rattle.dx_spec.specs.Codes.{taker_risk, bound}
 use Rattle.dx_spec.specs.Balance.{Sound, Balanced}
 use Rattle.dx_spec.specs.Audits.{audit}
 use Rattle.dx_laws.specs.Laws.{IsAuditBalanced}
-use Rattle.dx_node_spec.specs.Node.{Node, committed}
-use Rattle.dx_speculation.specs.Faithful.{IsGoodBlock}
-use Rattle.dx_node.specs.Stage.{propose}
+use Rattle.dx_sound.specs.Within.{SoundWithin, most_paid}
+use Rattle.dx_node_spec.specs.Node.{Node, committed, speculative}
+use Rattle.dx_speculation.specs.Faithful.{IsFaithful, IsGoodBlock}
+use Rattle.dx_node_spec.specs.Proposals.{propose}
 use Rattle.dx_scenario.specs.declared.event.Event.{Event}
 use Rattle.dx_scenario.specs.declared.event.Event.TheVariants as events
+use Rattle.dx_print.specs.declared.answer.Answer.{Answer}
+use Rattle.dx_print.specs.declared.answer.Answer.TheVariants as answers
 use Rattle.dx_cluster.specs.Stored.{Stored}
+use Rattle.dx_cluster.specs.Acts.{place_order}
 use Rattle.dx_cluster.specs.World.{World, world_of, step}
 
 -- the committed state of a node is the plain fold of its blocks from its genesis on, and all of them are good
@@ -62,9 +69,22 @@ pub record AreAlike (w v : World) : Type 0 where
   pub slots : w.slots ≡ v.slots
 
 -- they give the same reply to such an event, and are alike after it
+abbrev pub RepliesAgree : World → World → Type 0
+RepliesAgree w v = (event : Event) → IsTrue (is_of_committed event) → ((step w event).1 ≡ (step v event).1) × AreAlike (step w event).0 (step v event).0
+
+-- the committed amount that a reply tells of an order
+abbrev pub committed_amount : Answer → Option ℕ
+committed_amount (answers.Amounts committed speculative) = Some committed
+committed_amount answer = None
+
+-- of the filled amounts of an order they tell the same committed one, and they are alike after it
+abbrev pub AmountsAgree : World → World → Type 0
+AmountsAgree w v = (node : ℕ) (id : OrderId) → let event = events.Filled node id in
+    (committed_amount (step w event).1.answer ≡ committed_amount (step v event).1.answer) × AreAlike (step w event).0 (step v event).0
+
+-- so worlds that are alike agree on all that is told of committed states
 abbrev pub CommittedRepliesAgree : Type 0
-CommittedRepliesAgree = (w v : World) (event : Event) → All IsFold w.nodes → All IsFold v.nodes → AreAlike w v → IsTrue (is_of_committed event)
-    → ((step w event).1 ≡ (step v event).1) × AreAlike (step w event).0 (step v event).0
+CommittedRepliesAgree = (w v : World) → All IsFold w.nodes → All IsFold v.nodes → AreAlike w v → RepliesAgree w v × AmountsAgree w v
 
 -- the world after events, in order
 abbrev pub after : World → List Event → World
@@ -80,6 +100,25 @@ pub record IsInBalance (s : State) : Type 0 where
 -- each node's committed state is, in every world that a scenario reaches from nodes of a genesis in its ranges on
 abbrev pub StatesBalance : Type 0
 StatesBalance = (nodes : ℕ) (g : Genesis) (es : List Event) → IsGenesis g → All (λ p. IsInBalance (committed p)) (after (world_of nodes g) es).nodes
+
+-- a node's blocks and its queue are good, so that neither of its states comes from a default, and its speculative state is sound and balanced
+pub record IsInOrder (p : Node) : Type 0 where
+  pub faithful : IsFaithful p
+  pub sound : SoundWithin (most_paid (committed p).clock.height) (speculative p)
+  pub balanced : Balanced (speculative p)
+
+-- each node is so, in every such world
+abbrev pub NodesAreInOrder : Type 0
+NodesAreInOrder = (nodes : ℕ) (g : Genesis) (es : List Event) → IsGenesis g → All IsInOrder (after (world_of nodes g) es).nodes
+
+-- an answer names no code that stopped a placing but that of the taker's risk and that of a bound
+abbrev pub StopsByRisk : Answer → Type 0
+StopsByRisk (answers.Stopped filled code) = (code ≡ taker_risk) ⊎ (code ≡ bound)
+StopsByRisk answer = ⊤
+
+-- no placing is answered with another, in every such world
+abbrev pub PlacingsStopByRisk : Type 0
+PlacingsStopByRisk = (nodes : ℕ) (g : Genesis) (es : List Event) → IsGenesis g → All (λ p. (o : Order) → StopsByRisk (place_order o p).1) (after (world_of nodes g) es).nodes
 
 -- what a node proposes is good on its committed state
 abbrev pub ProposesGood : Node → Type 0

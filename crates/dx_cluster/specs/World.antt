@@ -8,18 +8,18 @@ use Rattle.dx_spec.specs.Blocks.{fills_in}
 use Rattle.dx_node_spec.specs.Node.{Node, new_node}
 use Rattle.dx_node_spec.specs.Placing.{Refusal}
 use Rattle.dx_node.specs.Held.{Held}
-use Rattle.dx_node.specs.Stage.{propose}
+use Rattle.dx_node_spec.specs.Proposals.{propose}
 use Rattle.dx_node.specs.Standing.{StandsFor}
 use Rattle.dx_scenario.specs.declared.event.Event.{Event}
 use Rattle.dx_scenario.specs.declared.event.Event.TheVariants as events
-use Rattle.dx_print.specs.declared.replies.Word.{Word}
-use Rattle.dx_print.specs.declared.replies.Word.TheVariants as words
+use Rattle.dx_scenario.specs.Events.{word_of}
+use Rattle.dx_print.specs.declared.words.Word.{Word}
 use Rattle.dx_print.specs.declared.replies.Reply.{Reply}
 use Rattle.dx_print.specs.declared.answer.Answer.{Answer}
 use Rattle.dx_print.specs.declared.answer.Answer.TheVariants as answers
 use Rattle.dx_cluster.specs.declared.cluster.Cluster.{Cluster}
 use Rattle.dx_cluster.specs.Stored.{Stored}
-use Rattle.dx_cluster.specs.Acts.{height_of, refused, place_order, feed_price, check_slot, commit_slot, tell_balance, tell_speculative, tell_filled, tell_best, tell_audit}
+use Rattle.dx_cluster.specs.Acts.{height_of, refused, place_order, cancel_order, cancel_orders, feed_price, check_slot, commit_slot, tell_balance, tell_speculative, tell_filled, tell_best, tell_audit}
 
 -- the nodes by number, and the blocks in the slots
 pub record World : Type 0 where
@@ -61,33 +61,21 @@ node_proposes w (Some p) slot time = put_proposal w slot (propose p time)
 abbrev pub propose_at : World → ℕ → ℕ → ℕ → World × Answer
 propose_at w node slot time = node_proposes w (slice_get w.nodes node) slot time
 
--- the word that is replied to an event
-abbrev pub word_of : Event → Word
-word_of (events.Place node order) = words.Place
-word_of (events.Cancel node id until) = words.Cancel
-word_of (events.CancelAll node who) = words.CancelAll
-word_of (events.Message node msg) = words.Message
-word_of (events.Feed node market price) = words.Feed
-word_of (events.Sweep node who) = words.Sweep
-word_of (events.Propose node slot time) = words.Propose
-word_of (events.Handed slot block) = words.Block
-word_of (events.Show slot) = words.Show
-word_of (events.Check node slot) = words.Check
-word_of (events.Commit node slot) = words.Commit
-word_of (events.Balance node who) = words.Balance
-word_of (events.Spec node who) = words.Spec
-word_of (events.Filled node id) = words.Filled
-word_of (events.Best node market) = words.Best
-word_of (events.Audit node) = words.Audit
-word_of (events.Digest node) = words.Digest
-word_of (events.Restart node) = words.Restart
+-- an event that is not built is in no transcript: it does nothing
+abbrev pub unanswered : World → World × Answer
+unanswered w = (w, answers.Absent)
 
--- all nodes and slots after an event, and the answer to it; an event that is not built is in no transcript, and does nothing
+-- all nodes and slots after an event, and the answer to it
 abbrev pub acted : World → Event → World × Answer
 acted w (events.Place node order) = act_at w node (place_order order)
+acted w (events.Cancel node id until) = act_at w node (cancel_order id until)
+acted w (events.CancelAll node who) = act_at w node (cancel_orders who)
+acted w (events.Message node msg) = unanswered w
 acted w (events.Feed node market price) = act_at w node (feed_price market price)
+acted w (events.Sweep node who) = unanswered w
 acted w (events.Propose node slot time) = propose_at w node slot time
 acted w (events.Handed slot b) = (record w { slots = insert w.slots slot b }, answers.Done None)
+acted w (events.Show slot) = unanswered w
 acted w (events.Check node slot) = act_at w node (check_slot (get w.slots slot))
 acted w (events.Commit node slot) = act_at w node (commit_slot (get w.slots slot))
 acted w (events.Balance node who) = act_at w node (tell_balance who)
@@ -95,7 +83,8 @@ acted w (events.Spec node who) = act_at w node (tell_speculative who)
 acted w (events.Filled node id) = act_at w node (tell_filled id)
 acted w (events.Best node market) = act_at w node (tell_best market)
 acted w (events.Audit node) = act_at w node tell_audit
-acted w event = (w, answers.Absent)
+acted w (events.Digest node) = unanswered w
+acted w (events.Restart node) = unanswered w
 
 -- the answer behind the event's word
 abbrev pub replied : Word → World × Answer → World × Reply

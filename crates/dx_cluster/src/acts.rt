@@ -1,29 +1,40 @@
 //! What one node does, and its answer.
 
 ghost use Rattle.std.specs.Prelude.{◌≡◌, ◌∷◌, Some, IfOk};
-ghost use Rattle.dx_rules.specs.Built.{IsBuilt};
-ghost use Rattle.dx_node_spec.specs.Placing.{refusal};
-ghost use Rattle.dx_node.specs.Stages.{outcome_of};
-ghost use Rattle.dx_cluster.specs.Acts.{refused, outcome_answer, place_order, feed_price, check_slot, commit_slot, best_answer, tell_balance, tell_speculative, tell_filled, tell_best, tell_audit};
+ghost use Rattle.dx_node.specs.Trades.{outcome_of};
+ghost use Rattle.dx_cluster.specs.Acts.{outcome_answer, place_order, cancel_order, cancel_orders, feed_price, check_slot, commit_slot, best_answer, tell_balance, tell_speculative, tell_filled, tell_best, tell_audit};
 ghost use Rattle.dx_cluster.specs.World.{Acts};
-ghost use Rattle.dx_cluster.specs.Refusals.{AnswersCheck, AnswersCommit, AnswersPlace};
+ghost use Rattle.dx_cluster.specs.Refusals.{AnswersBlock, AnswersCause, cause_answer};
 
-use dx_node::{CommitFault, Node, PlaceFault, Placed};
+use dx_node::{Node, Placed, Refusal};
 use dx_print::Answer;
 use dx_rules::BlockFault;
 use dx_types::{Block, List, NoMemory, Order, OrderId, SubaccountId};
 use std::alloc::Global;
 
-/// The number of the refusal of a market that is unknown.
-const NO_MARKET: u32 = 1;
+/// The refusal of a market that is unknown.
+const NO_MARKET: Refusal = Refusal {
+    number: 1,
+    value: None,
+};
 
-/// The answer that an event is refused, by the number of the cause.
-pub(crate) fn refused(number: u32) -> Answer
-    ensures { result ≡ refused (refusal number) }
+/// The answer that an event is refused for a cause.
+pub(crate) fn refused(cause: Refusal) -> Answer
+    ensures { result ≡ cause_answer cause }
 {
     Answer::Refused {
-        number,
-        value: None,
+        number: cause.number,
+        value: cause.value,
+    }
+}
+
+/// The answer that an event is refused for a cause; none is there where there was no memory.
+pub(crate) fn refused_or_memory(cause: Option<Refusal>) -> Result<Answer, NoMemory>
+    ensures { AnswersCause cause result }
+{
+    match cause {
+        Some(cause) => Ok(refused(cause)),
+        None => Err(NoMemory),
     }
 }
 
@@ -39,23 +50,33 @@ fn outcome_answer(placed: Placed) -> Answer
     }
 }
 
-/// The answer to an order that was not placed, or that there was no memory.
-fn place_refusal(fault: PlaceFault) -> Result<Answer, NoMemory>
-    ensures { AnswersPlace fault result }
-{
-    if fault == PlaceFault::NoMemory {
-        return Err(NoMemory);
-    }
-    Ok(refused(fault.number()))
-}
-
 /// A node takes an order.
 pub(crate) fn place_order(node: &mut Node, order: &Order) -> Result<Answer, NoMemory>
     ensures { IfOk result (λ answer. Acts (place_order order.now) node.old node.new answer) }
 {
     match node.place(order) {
         Ok(placed) => Ok(outcome_answer(placed)),
-        Err(fault) => place_refusal(fault),
+        Err(fault) => refused_or_memory(fault.refusal()),
+    }
+}
+
+/// A node cancels a short-term order: 1 where a resting one left for it, else 0.
+pub(crate) fn cancel_order(node: &mut Node, id: &OrderId, until: u32) -> Result<Answer, NoMemory>
+    ensures { IfOk result (λ answer. Acts (cancel_order id.now until) node.old node.new answer) }
+{
+    match node.cancel(id, until) {
+        Ok(left) => Ok(Answer::Done(Some(u32::from(left)))),
+        Err(fault) => refused_or_memory(fault.refusal()),
+    }
+}
+
+/// A node cancels the resting short-term orders of an account, and tells how many.
+pub(crate) fn cancel_orders(node: &mut Node, who: SubaccountId) -> Result<Answer, NoMemory>
+    ensures { IfOk result (λ answer. Acts (cancel_orders who) node.old node.new answer) }
+{
+    match node.cancel_all(who) {
+        Ok(count) => Ok(Answer::Done(Some(count))),
+        Err(fault) => refused_or_memory(fault.refusal()),
     }
 }
 
@@ -65,13 +86,13 @@ pub(crate) fn feed_price(node: &mut Node, market: u32, price: u64) -> Answer
 {
     match node.feed(market, price) {
         Ok(()) => Answer::Done(None),
-        Err(fault) => refused(fault.number()),
+        Err(fault) => refused(fault.refusal()),
     }
 }
 
 /// The answer to a block that is not good, or that there was no memory.
-fn check_refusal(fault: BlockFault) -> Result<Answer, NoMemory>
-    ensures { AnswersCheck fault result }
+fn block_refusal(fault: BlockFault) -> Result<Answer, NoMemory>
+    ensures { AnswersBlock fault result }
 {
     match fault {
         BlockFault::Bad(bad) => Ok(Answer::Bad(bad)),
@@ -81,22 +102,11 @@ fn check_refusal(fault: BlockFault) -> Result<Answer, NoMemory>
 
 /// A node tests a block, and stays as it was.
 pub(crate) fn check_block(alloc: Global, node: &mut Node, block: &Block) -> Result<Answer, NoMemory>
-    requires { IsBuilt block.now }
     ensures { IfOk result (λ answer. Acts (check_slot (Some block.now)) node.old node.new answer) }
 {
     match node.check(block) {
         Ok(()) => Ok(Answer::Good(List::new(alloc))),
-        Err(fault) => check_refusal(fault),
-    }
-}
-
-/// The answer to a block that was not committed, or that there was no memory.
-fn commit_refusal(fault: CommitFault) -> Result<Answer, NoMemory>
-    ensures { AnswersCommit fault result }
-{
-    match fault {
-        CommitFault::Bad(bad) => Ok(Answer::Bad(bad)),
-        CommitFault::NoMemory => Err(NoMemory),
+        Err(fault) => block_refusal(fault),
     }
 }
 
@@ -112,12 +122,11 @@ fn good_numbers(height: u32, results: &List<u32>) -> Result<List<u32>, NoMemory>
 
 /// A node commits a block.
 pub(crate) fn commit_block(node: &mut Node, block: &Block) -> Result<Answer, NoMemory>
-    requires { IsBuilt block.now }
     ensures { IfOk result (λ answer. Acts (commit_slot (Some block.now)) node.old node.new answer) }
 {
     match node.commit(block) {
         Ok(results) => Ok(Answer::Good(good_numbers(block.height, &results)?)),
-        Err(fault) => commit_refusal(fault),
+        Err(fault) => block_refusal(fault),
     }
 }
 

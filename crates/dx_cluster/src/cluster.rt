@@ -3,12 +3,11 @@
 ghost use Rattle.std.specs.Prelude.{◌<◌, ◌≤◌, length};
 
 use crate::acts::{
-    check_block, commit_block, feed_price, place_order, tell_audit, tell_balance, tell_best,
-    tell_filled, tell_speculative,
+    cancel_order, cancel_orders, check_block, commit_block, feed_price, place_order,
+    refused_or_memory, tell_audit, tell_balance, tell_best, tell_filled, tell_speculative,
 };
-use crate::proposed::{propose_refusal, proposed};
+use crate::proposed::proposed;
 use crate::slots::Slots;
-use crate::words::word_of;
 use dx_node::Node;
 use dx_print::{Answer, Reply};
 use dx_scenario::Event;
@@ -32,7 +31,7 @@ impl Cluster {
     ghost use Rattle.dx_spec.specs.Genesis.{IsNatFrom, IsGenesis};
     ghost use Rattle.dx_scenario.specs.Events.{IsOf};
     ghost use Rattle.dx_cluster.specs.Built.{unbuilt_place};
-    ghost use Rattle.dx_cluster.specs.Acts.{place_order, feed_price, check_slot, commit_slot, tell_balance, tell_speculative, tell_filled, tell_best, tell_audit};
+    ghost use Rattle.dx_cluster.specs.Acts.{place_order, cancel_order, cancel_orders, feed_price, check_slot, commit_slot, tell_balance, tell_speculative, tell_filled, tell_best, tell_audit};
     ghost use Rattle.dx_cluster.specs.World.{World, world_of, heights, act_at, propose_at, acted, step, Stands, HasActed, IsDone};
 
     /// From 1 to 16 nodes of one genesis, numbered from 0, and no slot filled ("Genesis line" in
@@ -79,6 +78,24 @@ impl Cluster {
         place_order(&mut self.nodes[node as usize], order)
     }
 
+    /// A node cancels a short-term order.
+    fn cancel(&mut self, node: u32, id: &OrderId, until: u32) -> Result<Answer, NoMemory>
+        requires { node < length self.old.nodes.items }
+        ensures { IfOk result (λ answer. (w : World) → Stands self.old w
+            → HasActed (act_at w node (cancel_order id.now until)) self.new answer) }
+    {
+        cancel_order(&mut self.nodes[node as usize], id, until)
+    }
+
+    /// A node cancels the resting short-term orders of an account.
+    fn cancel_all(&mut self, node: u32, who: SubaccountId) -> Result<Answer, NoMemory>
+        requires { node < length self.old.nodes.items }
+        ensures { IfOk result (λ answer. (w : World) → Stands self.old w
+            → HasActed (act_at w node (cancel_orders who)) self.new answer) }
+    {
+        cancel_orders(&mut self.nodes[node as usize], who)
+    }
+
     /// A node is fed a price.
     fn feed(&mut self, node: u32, market: u32, price: u64) -> Answer
         requires { node < length self.old.nodes.items }
@@ -100,7 +117,7 @@ impl Cluster {
                 self.slots.fill(slot, proposal)?;
                 Ok(answer)
             }
-            Err(fault) => propose_refusal(fault),
+            Err(fault) => refused_or_memory(fault.refusal()),
         }
     }
 
@@ -181,6 +198,8 @@ impl Cluster {
                 Ok(Answer::Done(None))
             }
             Event::Place { node, order } => self.place(node, &order),
+            Event::Cancel { node, id, until } => self.cancel(node, &id, until),
+            Event::CancelAll { node, who } => self.cancel_all(node, who),
             Event::Feed {
                 node,
                 market,
@@ -194,9 +213,7 @@ impl Cluster {
             Event::Filled { node, id } => Ok(self.filled(node, &id)),
             Event::Best { node, market } => Ok(self.best(node, market)),
             Event::Audit { node } => Ok(self.audit(node)),
-            Event::Cancel { .. }
-            | Event::CancelAll { .. }
-            | Event::Message { .. }
+            Event::Message { .. }
             | Event::Sweep { .. }
             | Event::Show { .. }
             | Event::Digest { .. }
@@ -213,7 +230,7 @@ impl Cluster {
         requires built { unbuilt_place event ≡ None }
         ensures { IfOk result (λ reply. (w : World) → Stands self.old w → IsDone (step w event) self.new reply) }
     {
-        let word = word_of(&event);
+        let word = event.word();
         let answer = self.act(event)?;
         Ok(Reply { word, answer })
     }

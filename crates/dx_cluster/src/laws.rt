@@ -1,6 +1,6 @@
 //! The laws on the worlds that a scenario reaches.
 
-ghost use Rattle.dx_cluster.specs.Laws.{CommittedRepliesAgree, FoldsStayGood, OnlyCommitsCount, ProposalsAreGood, StatesBalance};
+ghost use Rattle.dx_cluster.specs.Laws.{CommittedRepliesAgree, FoldsStayGood, NodesAreInOrder, OnlyCommitsCount, PlacingsStopByRisk, ProposalsAreGood, StatesBalance};
 
 /// The committed state of each node is the plain fold of its blocks in every world that a scenario reaches,
 /// and all of them are good: the committed replies never come from what the definition says of bad blocks.
@@ -16,8 +16,8 @@ pub fn only_commits_count()
 {}
 
 /// Two worlds with the same committed states and the same blocks in their slots give the same replies to
-/// `block`, `check`, `commit`, `balance` and `audit`, and are alike after them, whatever their nodes have placed,
-/// matched or been fed.
+/// `block`, `check`, `commit`, `balance` and `audit`, and the same first number to `filled`, and are alike after
+/// them, whatever their nodes have placed, matched or been fed.
 pub fn committed_replies_agree()
     ensures { CommittedRepliesAgree }
 {}
@@ -26,6 +26,17 @@ pub fn committed_replies_agree()
 /// world that events lead to from nodes of a genesis in its ranges.
 pub fn states_balance()
     ensures { StatesBalance }
+{}
+
+/// In each of these worlds the blocks and the queue of each node are good, so that neither its committed nor its
+/// speculative state comes from what the definitions say of bad ones, and both are sound and balanced.
+pub fn nodes_are_in_order()
+    ensures { NodesAreInOrder }
+{}
+
+/// In each of these worlds a placing that is stopped is stopped by the taker's risk or by a bound: no other code is named.
+pub fn placings_stop_by_risk()
+    ensures { PlacingsStopByRisk }
 {}
 
 /// In each of these worlds what a node proposes is good on its committed state.

@@ -7,11 +7,11 @@
 //! its queue behind them. [`unbuilt_place`] names the place of what is not built in an event; only what is
 //! built is served. One more event is one more case of `acted`.
 //!
-//! Five laws hold of the worlds that a scenario reaches: the committed state of each node is the plain fold
+//! Seven laws hold of the worlds that a scenario reaches: the committed state of each node is the plain fold
 //! of its blocks ([`folds_stay_good`]), it is balanced and sound, which its audit shows ([`states_balance`]),
-//! what a node proposes is good on it ([`proposals_are_good`]), nothing but a commit changes it, by nothing
-//! but the block of the slot ([`only_commits_count`]), and nothing else decides the replies about it
-//! ([`committed_replies_agree`]).
+//! the node's queue is good on it ([`nodes_are_in_order`]), a placing is stopped by risk or a bound alone
+//! ([`placings_stop_by_risk`]), what a node proposes is good on it ([`proposals_are_good`]), nothing but a commit changes it, by nothing but the block of the slot
+//! ([`only_commits_count`]), and nothing else decides the replies about it ([`committed_replies_agree`]).
 #![tactic(auto)]
 
 mod acts;
@@ -20,13 +20,12 @@ mod cluster;
 mod laws;
 mod proposed;
 mod slots;
-mod words;
 
 pub use built::unbuilt_place;
 pub use cluster::Cluster;
 pub use laws::{
-    committed_replies_agree, folds_stay_good, only_commits_count, proposals_are_good,
-    states_balance,
+    committed_replies_agree, folds_stay_good, nodes_are_in_order, only_commits_count,
+    placings_stop_by_risk, proposals_are_good, states_balance,
 };
 pub use slots::Slots;
 

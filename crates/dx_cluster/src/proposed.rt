@@ -3,13 +3,10 @@
 ghost use Rattle.std.specs.Prelude.{◌≡◌};
 ghost use Rattle.dx_node.specs.Short.{IsShort};
 ghost use Rattle.dx_cluster.specs.World.{proposed};
-ghost use Rattle.dx_cluster.specs.Refusals.{AnswersPropose};
 
-use crate::acts::refused;
-use dx_node::ProposeFault;
 use dx_operations::fills_of;
 use dx_print::Answer;
-use dx_types::{Block, NoMemory};
+use dx_types::Block;
 
 /// The height of a proposal, and how many operations, fills and offsets, messages, votes and prices it has.
 #[tactic(auto, using(crate::proofs::Counts::few_operations, crate::proofs::Counts::few_fills))]
@@ -25,14 +22,4 @@ pub(crate) fn proposed(block: &Block) -> Answer
         votes: block.votes.len() as u32,
         prices: block.prices.len() as u32,
     }
-}
-
-/// The answer where no block is proposed, or that there was no memory.
-pub(crate) fn propose_refusal(fault: ProposeFault) -> Result<Answer, NoMemory>
-    ensures { AnswersPropose fault result }
-{
-    if fault == ProposeFault::NoMemory {
-        return Err(NoMemory);
-    }
-    Ok(refused(fault.number()))
 }

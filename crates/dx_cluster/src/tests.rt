@@ -8,8 +8,7 @@ use crate::{Cluster, unbuilt_place};
 use dx_print::{Answer, Reply};
 use dx_scenario::Event;
 use dx_types::{
-    Account, Bad, Block, Genesis, List, MarketParams, Msg, NoMemory, Op, OrderId, Params,
-    SubaccountId, Vote,
+    Account, Bad, Block, Genesis, List, MarketParams, Msg, NoMemory, Params, SubaccountId,
 };
 use std::alloc::Global;
 use std::process::Abort;
@@ -80,14 +79,6 @@ fn numbers(alloc: Global, numbers: &[u32]) -> Result<List<u32>, NoMemory> {
     Ok(List::from_vec(numbers.to_vec(alloc)?))
 }
 
-// What an audit tells of the money paid in.
-fn paid_in(answer: &Answer) -> Option<i128> {
-    match answer {
-        Answer::Audit(sums) => Some(sums.paid_in),
-        _ => None,
-    }
-}
-
 // The answer of a cluster of one node to an event of which all is built.
 fn ask(rt: &impl Abort, cluster: &mut Cluster, event: Event) -> Result<Answer, Fail>
     requires { IsOf 1 event }
@@ -100,88 +91,33 @@ fn ask(rt: &impl Abort, cluster: &mut Cluster, event: Event) -> Result<Answer, F
     Ok(answer)
 }
 
+/// The calls of a cluster: nodes tell, a block is put into a slot, tested and committed, and it is bad afterwards.
 #[test]
 fn nodes_answer(rt: HostRuntime) -> Result<(), Fail> {
     let alloc = rt.alloc();
     let mut cluster = Cluster::new(alloc, 1, &genesis(alloc)?)?;
     let heights = cluster.heights()?;
     assert_eq!(rt; heights, Answer::Heights(numbers(alloc, &[0])?));
-    let empty = ask(&rt, &mut cluster, Event::Check { node: 0, slot: 3 })?;
+    let empty = ask(&rt, &mut cluster, Event::Check { node: 0, slot: 0 })?;
     assert_eq!(rt; empty, Answer::Empty);
-    let unfilled = ask(&rt, &mut cluster, Event::Commit { node: 0, slot: 3 })?;
-    assert_eq!(rt; unfilled, Answer::Empty);
-    let who = account_id(1);
-    let absent = ask(&rt, &mut cluster, Event::Balance { node: 0, who })?;
-    assert_eq!(rt; absent, Answer::Absent);
-    let audit = ask(&rt, &mut cluster, Event::Audit { node: 0 })?;
-    assert_eq!(rt; paid_in(&audit), Some(7));
-    Ok(())
-}
-
-#[test]
-fn blocks_are_tested_and_committed(rt: HostRuntime) -> Result<(), Fail> {
-    let alloc = rt.alloc();
-    let mut cluster = Cluster::new(alloc, 1, &genesis(alloc)?)?;
     let block = deposit(alloc, 1_000)?;
     let done = ask(&rt, &mut cluster, Event::Handed { slot: 0, block })?;
     assert_eq!(rt; done, Answer::Done(None));
-    let good = ask(&rt, &mut cluster, Event::Check { node: 0, slot: 0 })?;
-    assert_eq!(rt; good, Answer::Good(List::new(alloc)));
-    let who = account_id(1);
-    let absent = ask(&rt, &mut cluster, Event::Balance { node: 0, who })?;
-    assert_eq!(rt; absent, Answer::Absent);
     let committed = ask(&rt, &mut cluster, Event::Commit { node: 0, slot: 0 })?;
     assert_eq!(rt; committed, Answer::Good(numbers(alloc, &[1, 0])?));
+    let who = account_id(1);
     let balance = ask(&rt, &mut cluster, Event::Balance { node: 0, who })?;
     let account = Account::with_quote(1_000);
     assert_eq!(rt; balance, Answer::Balance { height: 1, account });
-    let again = ask(&rt, &mut cluster, Event::Check { node: 0, slot: 0 })?;
+    let again = ask(&rt, &mut cluster, Event::Commit { node: 0, slot: 0 })?;
+    let (part, index, fill, code) = (0, 0, 0, 26);
     let wrong_height = Bad {
-        part: 0,
-        index: 0,
-        fill: 0,
-        code: 26,
+        part,
+        index,
+        fill,
+        code,
     };
     assert_eq!(rt; again, Answer::Bad(wrong_height));
-    let refused = ask(&rt, &mut cluster, Event::Commit { node: 0, slot: 0 })?;
-    assert_eq!(rt; refused, Answer::Bad(wrong_height));
-    Ok(())
-}
-
-#[test]
-fn places_of_what_is_not_built(rt: HostRuntime) -> Result<(), Fail> {
-    let alloc = rt.alloc();
     assert_eq!(rt; unbuilt_place(&Event::Digest { node: 0 }), Some(0));
-    let id = OrderId {
-        who: account_id(1),
-        client: 1,
-        flags: 64,
-        market: 0,
-    };
-    let mut removing = block(alloc);
-    removing.ops.push(Op::Remove(id))?;
-    removing.msgs.push(Msg::CancelStateful(id))?;
-    let event = Event::Handed {
-        slot: 0,
-        block: removing,
-    };
-    assert_eq!(rt; unbuilt_place(&event), Some(4));
-    let mut cancelling = block(alloc);
-    cancelling.msgs.push(Msg::CancelStateful(id))?;
-    let event = Event::Handed {
-        slot: 0,
-        block: cancelling,
-    };
-    assert_eq!(rt; unbuilt_place(&event), Some(5));
-    let mut voting = block(alloc);
-    voting.votes.push(Vote {
-        market: 0,
-        premium: 1,
-    })?;
-    let event = Event::Handed {
-        slot: 0,
-        block: voting,
-    };
-    assert_eq!(rt; unbuilt_place(&event), Some(6));
     Ok(())
 }

@@ -5,7 +5,9 @@
 //! that `last_line` has for a status, or there was no memory. The texts are those of docs/FORMAT.md,
 //! Events, Replies and Audit.
 //!
-//! One more event is a [`Word`] and the [`Answer`]s that it has, each in `src/` and in `specs/`.
+//! Here stand all words of the format, each with its text: [`Word::text`] and [`Word::named`] say what
+//! `word_text` and `word_named` say. One more event is a [`Word`] and the [`Answer`]s that it has, each in
+//! `src/` and in `specs/`.
 #![tactic(auto)]
 
 mod answer;
@@ -15,11 +17,13 @@ mod lines;
 mod numbers;
 mod replies;
 mod status;
+mod words;
 
 pub use answer::Answer;
 pub use lines::reply;
-pub use replies::{Reply, Word};
+pub use replies::Reply;
 pub use status::last_line;
+pub use words::Word;
 
 #[cfg(test)]
 mod tests;

@@ -1,46 +1,65 @@
 -- What a line from the second on says.
-use Rattle.std.specs.Prelude.{ℕ, ◌<◌, ◌≤◌, List, Result}
+use Rattle.std.specs.Prelude.{◌≡◌, ℕ, ◌<◌, ◌≤◌, List, Result, Ok, Err}
 use Rattle.serde_json.specs.Data.{Data}
 use Rattle.dx_spec.specs.Step.{◌>>=◌}
 use Rattle.dx_scenario.specs.declared.event.Event.{Event}
 use Rattle.dx_scenario.specs.declared.event.Event.TheVariants.{Place, Cancel, CancelAll, Message, Feed, Sweep, Restart, Propose, Handed, Show, Check, Commit, Balance, Spec, Filled, Best, Audit, Digest}
-use Rattle.dx_scenario.specs.declared.words.Keyword.{Keyword}
-use Rattle.dx_scenario.specs.declared.words.Keyword.TheVariants as keywords
-use Rattle.dx_scenario.specs.Parts.{value_of, last_slot}
-use Rattle.dx_scenario.specs.Words.{keyword_part}
-use Rattle.dx_scenario.specs.NodeEvents.{place_event, cancel_event, cancel_all_event, message_event, feed_event, sweep_event, restart_event}
-use Rattle.dx_scenario.specs.SlotEvents.{propose_event, handed_event, show_event, check_event, commit_event}
-use Rattle.dx_scenario.specs.ReadEvents.{balance_event, spec_event, filled_event, best_event, audit_event, digest_event}
+use Rattle.dx_print.specs.declared.words.Word.{Word}
+use Rattle.dx_print.specs.declared.words.Word.TheVariants as words
+use Rattle.dx_scenario.specs.Parts.{value_of, word_part, last_slot}
+use Rattle.dx_scenario.specs.Behind.{lone_node, node_and_account, node_and_slot, place_event, cancel_event, message_event, feed_event, propose_event, handed_event, show_event, filled_event, best_event}
 
--- the elements behind a word
-unfoldable pub event_behind : ℕ → Data → Keyword → Result Event ℕ
-event_behind nodes d keywords.Place = place_event nodes d
-event_behind nodes d keywords.Cancel = cancel_event nodes d
-event_behind nodes d keywords.CancelAll = cancel_all_event nodes d
-event_behind nodes d keywords.Message = message_event nodes d
-event_behind nodes d keywords.Feed = feed_event nodes d
-event_behind nodes d keywords.Sweep = sweep_event nodes d
-event_behind nodes d keywords.Restart = restart_event nodes d
-event_behind nodes d keywords.Propose = propose_event nodes d
-event_behind nodes d keywords.Block = handed_event d
-event_behind nodes d keywords.Show = show_event d
-event_behind nodes d keywords.Check = check_event nodes d
-event_behind nodes d keywords.Commit = commit_event nodes d
-event_behind nodes d keywords.Balance = balance_event nodes d
-event_behind nodes d keywords.Spec = spec_event nodes d
-event_behind nodes d keywords.Filled = filled_event nodes d
-event_behind nodes d keywords.Best = best_event nodes d
-event_behind nodes d keywords.Audit = audit_event nodes d
-event_behind nodes d keywords.Digest = digest_event nodes d
+-- the word of an event
+abbrev pub word_of : Event → Word
+word_of (Place node order) = words.Place
+word_of (Cancel node id until) = words.Cancel
+word_of (CancelAll node who) = words.CancelAll
+word_of (Message node msg) = words.Message
+word_of (Feed node market price) = words.Feed
+word_of (Sweep node who) = words.Sweep
+word_of (Propose node slot time) = words.Propose
+word_of (Handed slot block) = words.Block
+word_of (Show slot) = words.Show
+word_of (Check node slot) = words.Check
+word_of (Commit node slot) = words.Commit
+word_of (Balance node who) = words.Balance
+word_of (Spec node who) = words.Spec
+word_of (Filled node id) = words.Filled
+word_of (Best node market) = words.Best
+word_of (Audit node) = words.Audit
+word_of (Digest node) = words.Digest
+word_of (Restart node) = words.Restart
+
+-- the event of a word and of the elements behind it; `genesis` is unknown on a later line
+unfoldable pub event_behind : ℕ → Data → Word → Result Event ℕ
+event_behind nodes d words.Genesis = Err 0
+event_behind nodes d words.Place = place_event nodes d
+event_behind nodes d words.Cancel = cancel_event nodes d
+event_behind nodes d words.CancelAll = node_and_account nodes d >>= λ r. Ok (CancelAll r.0 r.1)
+event_behind nodes d words.Message = message_event nodes d
+event_behind nodes d words.Feed = feed_event nodes d
+event_behind nodes d words.Sweep = node_and_account nodes d >>= λ r. Ok (Sweep r.0 r.1)
+event_behind nodes d words.Propose = propose_event nodes d
+event_behind nodes d words.Block = handed_event d
+event_behind nodes d words.Show = show_event d
+event_behind nodes d words.Check = node_and_slot nodes d >>= λ r. Ok (Check r.0 r.1)
+event_behind nodes d words.Commit = node_and_slot nodes d >>= λ r. Ok (Commit r.0 r.1)
+event_behind nodes d words.Balance = node_and_account nodes d >>= λ r. Ok (Balance r.0 r.1)
+event_behind nodes d words.Spec = node_and_account nodes d >>= λ r. Ok (Spec r.0 r.1)
+event_behind nodes d words.Filled = filled_event nodes d
+event_behind nodes d words.Best = best_event nodes d
+event_behind nodes d words.Audit = lone_node nodes d >>= λ node. Ok (Audit node)
+event_behind nodes d words.Digest = lone_node nodes d >>= λ node. Ok (Digest node)
+event_behind nodes d words.Restart = lone_node nodes d >>= λ node. Ok (Restart node)
 
 -- the event of a line, in a scenario of so many nodes, or the place of what is wrong
 abbrev pub event_of : ℕ → List ℕ → Result Event ℕ
-event_of nodes line = value_of line >>= λ d. keyword_part d >>= event_behind nodes d
+event_of nodes line = value_of line >>= λ d. word_part d >>= event_behind nodes d
 
--- the event's node is one of the nodes, and its slot is one of the slots
+-- the event's node is one of the nodes, its slot is one of the slots, and the id of a cancel is that of a short-term order
 abbrev pub IsOf : ℕ → Event → Type 0
 IsOf nodes (Place node order) = node < nodes
-IsOf nodes (Cancel node id until) = node < nodes
+IsOf nodes (Cancel node id until) = (node < nodes) × (id.flags ≡ 0)
 IsOf nodes (CancelAll node who) = node < nodes
 IsOf nodes (Message node msg) = node < nodes
 IsOf nodes (Feed node market price) = node < nodes

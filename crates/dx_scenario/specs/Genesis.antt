@@ -1,16 +1,16 @@
 -- What the first line says.
-use Rattle.std.specs.Prelude.{ℕ, ◌≤◌, Bool, ◌&&◌, not, nat_lt, ℤ, pos, negsuc, ◌+ℤ◌, int_le, List, codes, if◌then◌else◌, Option, Some, None, option_and_then, Result, Ok}
-use Rattle.std.specs.Str.{bytes_eq}
+use Rattle.std.specs.Prelude.{ℕ, ◌≤◌, Bool, ◌&&◌, not, nat_lt, ℤ, pos, negsuc, ◌+ℤ◌, int_le, List, Result, Ok, Err}
 use Rattle.serde_json.specs.Data.{Data, Items}
-use Rattle.serde_json.specs.Find.{as_str}
 use Rattle.dx_types.specs.declared.MarketParams.{MarketParams}
 use Rattle.dx_types.specs.declared.Params.{Params}
 use Rattle.dx_types.specs.declared.Genesis.{Genesis}
 use Rattle.dx_spec.specs.Step.{◌>>=◌, ◌>>◌, refuse}
 use Rattle.dx_spec.specs.Bounds.{last_moment}
 use Rattle.dx_spec.specs.Genesis.{IsNatFrom}
+use Rattle.dx_print.specs.declared.words.Word.{Word}
+use Rattle.dx_print.specs.declared.words.Word.TheVariants as words
 use Rattle.dx_scenario.specs.declared.genesis.Rates.{Rates}
-use Rattle.dx_scenario.specs.Parts.{part, closed, value_part, nat_part, int_part, items_part, item_count, each_of, value_of}
+use Rattle.dx_scenario.specs.Parts.{closed, line_ends, value_part, nat_part, int_part, items_part, item_count, each_of, value_of, word_part}
 
 -- the power of ten by which size times price is value is from -18 to 6
 abbrev pub is_value_exponent : ℤ → ℤ → Bool
@@ -85,13 +85,14 @@ genesis_in d = do
   time ← nat_part 0 last_moment 2 2 d
   insurance ← int_part (pos 0) (pos 1_152_921_504_606_846_975) 3 3 d
   params ← params_in d
-  closed 7 7 d
+  line_ends 7 d
   Ok (nodes, record { time = time; insurance = insurance; params = params })
 
--- the only word of the first line
-abbrev pub genesis_word : List ℕ → Option (Unit {0})
-genesis_word text = if bytes_eq text (codes "genesis") then Some tt else None
+-- the elements behind the word of the first line; any other word is unknown there
+unfoldable pub genesis_behind : Data → Word → Result (ℕ × Genesis) ℕ
+genesis_behind d words.Genesis = genesis_in d
+genesis_behind d word = Err 0
 
 -- the number of nodes and the genesis of a line, or the place of what is wrong
 abbrev pub genesis_of : List ℕ → Result (ℕ × Genesis) ℕ
-genesis_of line = value_of line >>= λ d. part (λ v. option_and_then genesis_word (as_str v)) 0 0 d >> genesis_in d
+genesis_of line = value_of line >>= λ d. word_part d >>= genesis_behind d

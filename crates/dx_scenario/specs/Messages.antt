@@ -5,24 +5,8 @@ use Rattle.dx_types.specs.declared.Msg.{Msg}
 use Rattle.dx_types.specs.declared.Msg.TheVariants.{Deposit, Withdraw, Transfer, PlaceStateful, CancelStateful}
 use Rattle.dx_spec.specs.Step.{◌>>=◌, ◌>>◌}
 use Rattle.dx_scenario.specs.Parts.{closed, value_part, u64_part}
-use Rattle.dx_scenario.specs.Names.{subaccount_part, order_id_part}
-use Rattle.dx_scenario.specs.Orders.{order_part}
-
--- behind the number 1: account and amount
-unfoldable pub deposit_msg : ℕ → Data → Result Msg ℕ
-deposit_msg place d = do
-  who ← subaccount_part place 1 d
-  amount ← u64_part place 2 d
-  closed place 3 d
-  Ok (Deposit who amount)
-
--- behind the number 2: account and amount
-unfoldable pub withdraw_msg : ℕ → Data → Result Msg ℕ
-withdraw_msg place d = do
-  who ← subaccount_part place 1 d
-  amount ← u64_part place 2 d
-  closed place 3 d
-  Ok (Withdraw who amount)
+use Rattle.dx_scenario.specs.Names.{subaccount_part, account_and_amount, lone_id}
+use Rattle.dx_scenario.specs.Orders.{lone_order}
 
 -- behind the number 3: the account that pays, the one that is paid, and the amount
 unfoldable pub transfer_msg : ℕ → Data → Result Msg ℕ
@@ -33,28 +17,14 @@ transfer_msg place d = do
   closed place 4 d
   Ok (Transfer from to amount)
 
--- behind the number 4: the order
-unfoldable pub place_stateful_msg : ℕ → Data → Result Msg ℕ
-place_stateful_msg place d = do
-  order ← order_part place 1 d
-  closed place 2 d
-  Ok (PlaceStateful order)
-
--- behind the number 5: the order's id
-unfoldable pub cancel_stateful_msg : ℕ → Data → Result Msg ℕ
-cancel_stateful_msg place d = do
-  id ← order_id_part place 1 d
-  closed place 2 d
-  Ok (CancelStateful id)
-
--- what stands behind a message's number; any other number is wrong
+-- what stands behind a message's number: account and amount, a transfer, an order or an order id; any other number is wrong
 abbrev pub msg_numbered : ℕ → Data → ℕ → Result Msg ℕ
 msg_numbered place d n =
-    if n == 1 then deposit_msg place d
-    else (if n == 2 then withdraw_msg place d
+    if n == 1 then (account_and_amount place 1 d >>= λ r. Ok (Deposit r.0 r.1))
+    else (if n == 2 then (account_and_amount place 1 d >>= λ r. Ok (Withdraw r.0 r.1))
     else (if n == 3 then transfer_msg place d
-    else (if n == 4 then place_stateful_msg place d
-    else (if n == 5 then cancel_stateful_msg place d else Err place))))
+    else (if n == 4 then (lone_order place d >>= λ order. Ok (PlaceStateful order))
+    else (if n == 5 then (lone_id place d >>= λ id. Ok (CancelStateful id)) else Err place))))
 
 -- a message: its number, and what stands behind it
 unfoldable pub msg_of : ℕ → Data → Result Msg ℕ

@@ -42,3 +42,10 @@ order_of place d = do
 -- the i-th element, an order
 abbrev pub order_part : ℕ → ℕ → Data → Result Order ℕ
 order_part place i d = value_part place i d >>= order_of place
+
+-- the last element, with the number 1: an order
+unfoldable pub lone_order : ℕ → Data → Result Order ℕ
+lone_order place d = do
+  order ← order_part place 1 d
+  closed place 2 d
+  Ok order

@@ -1,19 +1,16 @@
-ghost use Rattle.std.specs.Prelude.{◌<◌, IfOk};
+ghost use Rattle.std.specs.Prelude.{◌≡◌, ◌<◌, IfOk};
 ghost use Rattle.serde_json.specs.View.{view};
 ghost use Rattle.dx_scenario.specs.Parts.{Reads};
-ghost use Rattle.dx_scenario.specs.Events.{event_behind, event_of, IsOf};
+ghost use Rattle.dx_scenario.specs.Events.{word_of, event_behind, event_of, IsOf};
 
+use crate::behind::{
+    best_event, cancel_event, feed_event, filled_event, handed_event, lone_node, message_event,
+    node_and_account, node_and_slot, place_event, propose_event, show_event,
+};
 use crate::fault::LineFault;
-use crate::node_events::{
-    cancel_all_event, cancel_event, feed_event, message_event, place_event, restart_event,
-    sweep_event,
-};
-use crate::read_events::{
-    audit_event, balance_event, best_event, digest_event, filled_event, spec_event,
-};
-use crate::slot_events::{check_event, commit_event, handed_event, propose_event, show_event};
+use crate::parts::word_part;
 use crate::value::value_of;
-use crate::words::{Keyword, keyword_part};
+use dx_print::Word;
 use dx_types::{Block, Msg, Order, OrderId, SubaccountId};
 use serde_json::Value;
 use std::alloc::Global;
@@ -148,48 +145,75 @@ pub enum Event {
     },
 }
 
+impl Event {
+    /// The word of the event, which stands in its line and in its reply.
+    pub fn word(&self) -> Word
+        ensures { result ≡ word_of self.now }
+    {
+        match self {
+            Event::Place { .. } => Word::Place,
+            Event::Cancel { .. } => Word::Cancel,
+            Event::CancelAll { .. } => Word::CancelAll,
+            Event::Message { .. } => Word::Message,
+            Event::Feed { .. } => Word::Feed,
+            Event::Sweep { .. } => Word::Sweep,
+            Event::Propose { .. } => Word::Propose,
+            Event::Handed { .. } => Word::Block,
+            Event::Show { .. } => Word::Show,
+            Event::Check { .. } => Word::Check,
+            Event::Commit { .. } => Word::Commit,
+            Event::Balance { .. } => Word::Balance,
+            Event::Spec { .. } => Word::Spec,
+            Event::Filled { .. } => Word::Filled,
+            Event::Best { .. } => Word::Best,
+            Event::Audit { .. } => Word::Audit,
+            Event::Digest { .. } => Word::Digest,
+            Event::Restart { .. } => Word::Restart,
+        }
+    }
+}
+
 #[tactic(auto, unfolding(crate::specs::Events::event_behind))]
-fn event_behind(
-    alloc: Global,
-    line: &Value,
-    nodes: u32,
-    keyword: Keyword,
-) -> Result<Event, LineFault>
+fn event_behind(alloc: Global, line: &Value, nodes: u32, word: Word) -> Result<Event, LineFault>
     requires { 0 < nodes }
-    ensures read { Reads result (event_behind nodes (view line.now) keyword) }
-    ensures of { IfOk result (λ event. IsOf nodes event) }
+    ensures { Reads result (event_behind nodes (view line.now) word) }
 {
-    match keyword {
-        Keyword::Place => place_event(line, nodes),
-        Keyword::Cancel => cancel_event(line, nodes),
-        Keyword::CancelAll => cancel_all_event(line, nodes),
-        Keyword::Message => message_event(line, nodes),
-        Keyword::Feed => feed_event(line, nodes),
-        Keyword::Sweep => sweep_event(line, nodes),
-        Keyword::Restart => restart_event(line, nodes),
-        Keyword::Propose => propose_event(line, nodes),
-        Keyword::Block => handed_event(alloc, line),
-        Keyword::Show => show_event(line),
-        Keyword::Check => check_event(line, nodes),
-        Keyword::Commit => commit_event(line, nodes),
-        Keyword::Balance => balance_event(line, nodes),
-        Keyword::Spec => spec_event(line, nodes),
-        Keyword::Filled => filled_event(line, nodes),
-        Keyword::Best => best_event(line, nodes),
-        Keyword::Audit => audit_event(line, nodes),
-        Keyword::Digest => digest_event(line, nodes),
+    match word {
+        Word::Genesis => Err(LineFault::Bad { field: 0 }),
+        Word::Place => place_event(line, nodes),
+        Word::Cancel => cancel_event(line, nodes),
+        Word::CancelAll => {
+            node_and_account(line, nodes).map(|(node, who)| Event::CancelAll { node, who })
+        }
+        Word::Message => message_event(line, nodes),
+        Word::Feed => feed_event(line, nodes),
+        Word::Sweep => node_and_account(line, nodes).map(|(node, who)| Event::Sweep { node, who }),
+        Word::Propose => propose_event(line, nodes),
+        Word::Block => handed_event(alloc, line),
+        Word::Show => show_event(line),
+        Word::Check => node_and_slot(line, nodes).map(|(node, slot)| Event::Check { node, slot }),
+        Word::Commit => node_and_slot(line, nodes).map(|(node, slot)| Event::Commit { node, slot }),
+        Word::Balance => {
+            node_and_account(line, nodes).map(|(node, who)| Event::Balance { node, who })
+        }
+        Word::Spec => node_and_account(line, nodes).map(|(node, who)| Event::Spec { node, who }),
+        Word::Filled => filled_event(line, nodes),
+        Word::Best => best_event(line, nodes),
+        Word::Audit => lone_node(line, nodes).map(|node| Event::Audit { node }),
+        Word::Digest => lone_node(line, nodes).map(|node| Event::Digest { node }),
+        Word::Restart => lone_node(line, nodes).map(|node| Event::Restart { node }),
     }
 }
 
 /// The event of a line, in a scenario of so many nodes.
 ///
-/// `Bad` is exactly where the line is no event. The event's node is one of the nodes, and its slot one
-/// of the slots.
+/// `Bad` is exactly where the line is no event. The event's node is one of the nodes, its slot one of the
+/// slots, and the id of a cancel has the flags 0.
 pub fn read_event(alloc: Global, line: &[u8], nodes: u32) -> Result<Event, LineFault>
     requires { 0 < nodes }
     ensures read { Reads result (event_of nodes line.now) }
     ensures of { IfOk result (λ event. IsOf nodes event) }
 {
     let value = value_of(alloc, line)?;
-    event_behind(alloc, &value, nodes, keyword_part(&value)?)
+    event_behind(alloc, &value, nodes, word_part(&value)?)
 }

@@ -3,14 +3,16 @@ ghost use Rattle.serde_json.specs.View.{view, items_view};
 ghost use Rattle.dx_spec.specs.Step.{refuse};
 ghost use Rattle.dx_spec.specs.Genesis.{IsFrom, IsNatFrom, IsMarketParams, IsParams, IsGenesis};
 ghost use Rattle.dx_scenario.specs.Parts.{Finds, Reads, value_of};
-ghost use Rattle.dx_scenario.specs.Genesis.{is_value_exponent, market_of, rates_of, IsRates, markets_of, params_in, genesis_in, genesis_of, genesis_word};
+ghost use Rattle.dx_scenario.specs.Genesis.{is_value_exponent, market_of, rates_of, IsRates, markets_of, params_in, genesis_in, genesis_behind, genesis_of};
 
 use crate::fault::LineFault;
 use crate::parts::{
-    closed, i32_within, i64_within, items_part, u32_within, u64_within, value_part,
+    closed, i32_within, i64_within, items_part, line_ends, u32_within, u64_within, value_part,
+    word_part,
 };
 use crate::shape::{Shape, each_of};
 use crate::value::value_of;
+use dx_print::Word;
 use dx_types::limits::{FUND_LIMIT, LAST_MOMENT, MOST_MARKETS};
 use dx_types::{Genesis, List, MarketParams, Params};
 use serde_json::Value;
@@ -149,7 +151,7 @@ fn genesis_in(alloc: Global, line: &Value) -> Result<(u32, Genesis), LineFault>
     let time = u32_within(line, 2, 2, 0, LAST_MOMENT)?;
     let insurance = i64_within(line, 3, 3, 0, FUND_LIMIT - 1)?;
     let params = params_in(alloc, line)?;
-    closed(line, 7, 7)?;
+    line_ends(line, 7)?;
     let genesis = Genesis {
         time,
         insurance,
@@ -158,10 +160,16 @@ fn genesis_in(alloc: Global, line: &Value) -> Result<(u32, Genesis), LineFault>
     Ok((nodes, genesis))
 }
 
-fn genesis_word(text: &str) -> Option<()>
-    ensures { result ≡ genesis_word text.now }
+#[tactic(auto, unfolding(crate::specs::Genesis::genesis_behind))]
+fn genesis_behind(alloc: Global, line: &Value, word: Word) -> Result<(u32, Genesis), LineFault>
+    ensures read { Reads result (genesis_behind (view line.now) word) }
+    ensures nodes { IfOk result (λ r. IsNatFrom 1 16 r.0) }
+    ensures good { IfOk result (λ r. IsGenesis r.1) }
 {
-    if text == "genesis" { Some(()) } else { None }
+    if word != Word::Genesis {
+        return Err(LineFault::Bad { field: 0 });
+    }
+    genesis_in(alloc, line)
 }
 
 /// The number of nodes and the genesis of a scenario's first line.
@@ -173,10 +181,5 @@ pub fn read_genesis(alloc: Global, line: &[u8]) -> Result<(u32, Genesis), LineFa
     ensures good { IfOk result (λ r. IsGenesis r.1) }
 {
     let value = value_of(alloc, line)?;
-    value
-        .get(0)
-        .and_then(Value::as_str)
-        .and_then(genesis_word)
-        .ok_or(LineFault::Bad { field: 0 })?;
-    genesis_in(alloc, &value)
+    genesis_behind(alloc, &value, word_part(&value)?)
 }

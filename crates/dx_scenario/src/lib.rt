@@ -9,25 +9,19 @@
 //! each in `src/` and in `specs/`; one more kind of member of a list is a `Shape`.
 #![tactic(auto)]
 
+mod behind;
 mod blocks;
 mod event;
 mod fault;
 mod genesis;
 mod messages;
 mod names;
-mod node_events;
 mod operations;
 mod orders;
 mod parts;
-mod read_events;
 mod shape;
-mod slot_events;
 mod value;
-mod words;
 
 pub use event::{Event, read_event};
 pub use fault::LineFault;
 pub use genesis::read_genesis;
-
-#[cfg(test)]
-mod tests;

@@ -1,7 +1,7 @@
 ghost use Rattle.std.specs.Prelude.{◌≡◌};
 ghost use Rattle.serde_json.specs.View.{view};
 ghost use Rattle.dx_scenario.specs.Parts.{Finds};
-ghost use Rattle.dx_scenario.specs.Orders.{side_part, kind_numbered, kind_part, order_of, order_part};
+ghost use Rattle.dx_scenario.specs.Orders.{side_part, kind_numbered, kind_part, order_of, order_part, lone_order};
 
 use crate::fault::LineFault;
 use crate::names::order_id_in;
@@ -63,4 +63,14 @@ pub fn order_part(value: &Value, place: u32, i: usize) -> Result<Order, LineFaul
     ensures { Finds result (order_part place i (view value.now)) }
 {
     order_of(value_part(value, place, i)?, place)
+}
+
+/// An order as the last element, behind a number.
+#[tactic(auto, unfolding(crate::specs::Orders::lone_order))]
+pub fn lone_order(value: &Value, place: u32) -> Result<Order, LineFault>
+    ensures { Finds result (lone_order place (view value.now)) }
+{
+    let order = order_part(value, place, 1)?;
+    closed(value, place, 2)?;
+    Ok(order)
 }

@@ -1,8 +1,9 @@
 ghost use Rattle.std.specs.Prelude.{◌≤◌, ◌≤ℤ◌, ◌<◌, IfOk};
 ghost use Rattle.serde_json.specs.View.{view, items_view};
-ghost use Rattle.dx_scenario.specs.Parts.{FindsAs, Finds, value_part, closed, nat_part, int_part, u32_part, u64_part, i32_part, node_part, slot_part, last_slot, items_part};
+ghost use Rattle.dx_scenario.specs.Parts.{FindsAs, Finds, value_part, closed, line_ends, word_part, nat_part, int_part, u32_part, line_u32, u64_part, i32_part, node_part, slot_part, items_part};
 
 use crate::fault::LineFault;
+use dx_print::Word;
 use serde_json::Value;
 
 const LAST_SLOT: u32 = 255;
@@ -22,6 +23,23 @@ pub fn closed(value: &Value, place: u32, i: usize) -> Result<(), LineFault>
         return Err(LineFault::Bad { field: place });
     }
     Ok(())
+}
+
+/// The line has no i-th element.
+pub fn line_ends(line: &Value, i: u32) -> Result<(), LineFault>
+    ensures { Finds result (line_ends i (view line.now)) }
+{
+    closed(line, i, i as usize)
+}
+
+/// The word of a line, its first element.
+pub fn word_part(line: &Value) -> Result<Word, LineFault>
+    ensures { Finds result (word_part (view line.now)) }
+{
+    line.get(0)
+        .and_then(Value::as_str)
+        .and_then(Word::named)
+        .ok_or(LineFault::Bad { field: 0 })
 }
 
 /// The i-th element, a number from `low` to `high`.
@@ -113,6 +131,13 @@ pub fn u32_part(value: &Value, place: u32, i: usize) -> Result<u32, LineFault>
     u32_within(value, place, i, 0, u32::MAX)
 }
 
+/// The i-th element of a line, a number of 32 bits.
+pub fn line_u32(line: &Value, i: u32) -> Result<u32, LineFault>
+    ensures { Finds result (line_u32 i (view line.now)) }
+{
+    u32_part(line, i, i as usize)
+}
+
 /// The i-th element, a number of 64 bits.
 pub fn u64_part(value: &Value, place: u32, i: usize) -> Result<u64, LineFault>
     ensures { Finds result (u64_part place i (view value.now)) }
@@ -130,16 +155,14 @@ pub fn i32_part(value: &Value, place: u32, i: usize) -> Result<i32, LineFault>
 /// The element 1 of a line, one of so many nodes.
 pub fn node_part(line: &Value, nodes: u32) -> Result<u32, LineFault>
     requires { 0 < nodes }
-    ensures read { Finds result (node_part nodes (view line.now)) }
-    ensures bound { IfOk result (λ node. node < nodes) }
+    ensures { Finds result (node_part nodes (view line.now)) }
 {
     u32_within(line, 1, 1, 0, nodes - 1)
 }
 
 /// The i-th element of a line, a slot.
 pub fn slot_part(line: &Value, i: u32) -> Result<u32, LineFault>
-    ensures read { Finds result (slot_part i (view line.now)) }
-    ensures bound { IfOk result (λ slot. slot ≤ last_slot) }
+    ensures { Finds result (slot_part i (view line.now)) }
 {
     u32_within(line, i, i as usize, 0, LAST_SLOT)
 }

@@ -171,32 +171,22 @@ const BAD_GENESES: [(&str, u32); 26] = [
     (r#"["genesis",2,0,0,1,[500,200,5000,1500000,1000000],[]"#, 0),
 ];
 
-#[test]
-fn a_bad_event_is_told_with_its_place(rt: HostRuntime) -> Result<(), Fail> {
-    for (line, field) in BAD_EVENTS {
-        let status = status_of_lines(rt.alloc(), GENESIS, line.as_bytes())?;
-        assert_eq!(rt; status, Status::BadLine { line: 2, field }, "at {line}");
-    }
-    Ok(())
-}
-
-#[test]
-fn a_line_that_is_no_text_is_bad(rt: HostRuntime) -> Result<(), Fail> {
-    for line in NO_TEXT {
-        let status = status_of_lines(rt.alloc(), GENESIS, line)?;
-        assert_eq!(rt; status, Status::BadLine { line: 2, field: 0 });
-    }
-    Ok(())
-}
-
-#[test]
-fn a_bad_genesis_is_told_with_its_place(rt: HostRuntime) -> Result<(), Fail> {
-    for (line, field) in BAD_GENESES {
-        let status = status_of_lines(rt.alloc(), line, b"[\"commit\",0,0]")?;
-        assert_eq!(rt; status, Status::BadLine { line: 1, field }, "at {line}");
-    }
-    Ok(())
-}
+/// Second lines that are events of the format, with the place of what is not built in each.
+const UNBUILT: [(&str, u32); 7] = [
+    (r#"["message",0,[1,[1,0],5]]"#, 0),
+    (r#"["sweep",0,[1,0]]"#, 0),
+    (r#"["show",0]"#, 0),
+    (r#"["digest",0]"#, 0),
+    (r#"["restart",0]"#, 0),
+    (
+        r#"["block",0,1,1,[[3,[1,0],0,[[[2,0,1,0,0],5]]]],[[5,[1,0,1,64,0]]],[[0,0]],[]]"#,
+        5,
+    ),
+    (
+        r#"["block",0,1,1,[],[[4,[1,0,1,64,0,1,5,5,9,0]]],[[0,0]],[]]"#,
+        5,
+    ),
+];
 
 /// A commit with a list too many, whose lists lie so deep in one another.
 fn nested(alloc: Global, deep: usize) -> Result<Vec<u8>, Fail> {
@@ -210,22 +200,34 @@ fn nested(alloc: Global, deep: usize) -> Result<Vec<u8>, Fail> {
     Ok(line)
 }
 
-/// Lists may be nested 127 deep: then the list is one element too many. One more is no JSON.
+/// A bad line is told with its place. Lists may be nested 127 deep: then the list is one element too many, and one
+/// more is no JSON. Blanks and a carriage return may stand around elements, and escapes in a word.
 #[test]
-fn lists_are_nested_to_a_limit(rt: HostRuntime) -> Result<(), Fail> {
+fn bad_lines_are_told_with_their_places(rt: HostRuntime) -> Result<(), Fail> {
+    let alloc = rt.alloc();
+    for (line, field) in BAD_EVENTS {
+        let status = status_of_lines(alloc, GENESIS, line.as_bytes())?;
+        assert_eq!(rt; status, Status::BadLine { line: 2, field }, "at {line}");
+    }
+    for (line, field) in UNBUILT {
+        let status = status_of_lines(alloc, GENESIS, line.as_bytes())?;
+        assert_eq!(rt; status, Status::BadLine { line: 2, field }, "at {line}");
+    }
+    for line in NO_TEXT {
+        let status = status_of_lines(alloc, GENESIS, line)?;
+        assert_eq!(rt; status, Status::BadLine { line: 2, field: 0 });
+    }
+    for (line, field) in BAD_GENESES {
+        let status = status_of_lines(alloc, line, b"[\"commit\",0,0]")?;
+        assert_eq!(rt; status, Status::BadLine { line: 1, field }, "at {line}");
+    }
     for (deep, field) in [(127, 3), (128, 0)] {
-        let line = nested(rt.alloc(), deep)?;
-        let status = status_of_lines(rt.alloc(), GENESIS, line.as_slice())?;
+        let line = nested(alloc, deep)?;
+        let status = status_of_lines(alloc, GENESIS, line.as_slice())?;
         assert_eq!(rt; status, Status::BadLine { line: 2, field }, "at {deep}");
     }
-    Ok(())
-}
-
-/// Blanks and a carriage return may stand around elements, and escapes in a word.
-#[test]
-fn a_line_may_be_written_in_other_ways(rt: HostRuntime) -> Result<(), Fail> {
     for line in [r#"["\u0063ommit",0,0]"#, " [ \"commit\" ,\t0 , 0 ] \r"] {
-        let status = status_of_lines(rt.alloc(), GENESIS, line.as_bytes())?;
+        let status = status_of_lines(alloc, GENESIS, line.as_bytes())?;
         assert_eq!(rt; status, Status::Done, "at {line}");
     }
     Ok(())

@@ -1,8 +1,5 @@
 //! The life of a node: what it places, matches, is fed and proposes, and what others make of its blocks.
 
-use super::worked::is_answered;
-use std::test::Fail;
-
 const ANOTHER_NODE: &str =
     r#"["genesis",2,0,0,1,[500,200,5000,1500000,1000000],[[-10,-9,1000000,100000,-5,5000000000,50000,600000,500000000,1000000],[-9,-9,1000,100000,-6,3000000000,50000,600000,500000000,1000000]]]
 ["block",0,1,1,[],[[1,[1,0],10000000000],[1,[2,0],10000000000]],[],[]]
@@ -34,7 +31,7 @@ const ANOTHER_NODE_REPLIES: &str = "1 genesis 0 0
 6 spec 1 -40025000000 1 0 10000000000 0
 7 spec 1 59990000000 1 0 -10000000000 0
 8 balance 1 10000000000 0
-9 propose block 2 3 1 0 0 0
+9 propose block 2 3 1 0 2 0
 10 commit good 1 0 0
 11 place rested 0
 12 place filled
@@ -64,7 +61,7 @@ const FEES_REPLIES: &str = "1 genesis 0 0
 3 commit good 1 0 0
 4 place rested 0
 5 place filled
-6 propose block 2 3 1 0 0 0
+6 propose block 2 3 1 0 2 0
 7 commit good 2
 8 audit 2 20000000000 0 19999996498 3502 3500070000 1930000 0 0 5000000000 0 1000000 1000000 1000000 0 0 0 1 3000000000 0 0 0 0 0 0 0
 ";
@@ -108,7 +105,7 @@ const NO_RISKIER_REPLIES: &str = "1 genesis 0
 3 commit good 1 0 0
 4 place rested 0
 5 place filled
-6 propose block 2 3 1 0 0 0
+6 propose block 2 3 1 0 1 0
 7 commit good 2
 8 block ok
 9 commit good 3
@@ -182,12 +179,12 @@ const PRICE_REPLIES: &str = "1 genesis 0
 3 commit good 1 0 0
 4 place rested 0
 5 place filled
-6 propose block 2 3 1 0 0 0
+6 propose block 2 3 1 0 1 0
 7 commit good 2
 8 feed ok
-9 propose block 3 0 0 0 0 0
+9 propose block 3 0 0 0 1 0
 10 feed ok
-11 propose block 3 0 0 0 0 1
+11 propose block 3 0 0 0 1 1
 12 block ok
 13 check bad 4 0 0 24
 14 feed refused 1
@@ -246,12 +243,12 @@ const REFUSALS_REPLIES: &str = "1 genesis 0
 19 propose refused 1
 20 commit empty
 21 propose refused 1
-22 propose block 2 3 1 0 0 0
+22 propose block 2 3 1 0 1 0
 23 commit good 2
 24 best 0 0 0 0
 25 filled 2000000 2000000
 26 place refused 5
-27 propose block 3 0 0 0 0 0
+27 propose block 3 0 0 0 1 0
 28 commit good 3
 ";
 
@@ -313,7 +310,7 @@ const MAKERS_REPLIES: &str = "1 genesis 0 0
 19 feed ok
 20 feed ok
 21 feed ok
-22 propose block 2 8 3 0 0 2
+22 propose block 2 8 3 0 2 2
 23 propose refused 1
 24 check good
 25 commit good 2
@@ -324,7 +321,7 @@ const MAKERS_REPLIES: &str = "1 genesis 0 0
 30 block ok
 31 commit bad 0 0 0 27
 32 filled 2000000 3000000
-33 propose block 3 3 1 0 0 0
+33 propose block 3 3 1 0 2 0
 34 check good
 ";
 
@@ -345,74 +342,94 @@ const SIZES_REPLIES: &str = "1 genesis 0 0
 6 place refused 1
 ";
 
-/// A trade that one node matches and proposes, at another node that has matched its own. The block
-/// of the other drops its own queue, and its repeat has the wrong height.
-#[test]
-fn another_node_takes_a_proposal(rt: HostRuntime) -> Result<(), Fail> {
-    assert!(rt; is_answered(rt.alloc(), ANOTHER_NODE, ANOTHER_NODE_REPLIES)?);
-    Ok(())
-}
+const CANCELLED: &str =
+    r#"["genesis",2,0,0,1,[500,200,5000,1500000,1000000],[[-10,-9,1000000,100000,-5,5000000000,50000,600000,500000000,1000000],[-9,-9,1000,100000,-6,3000000000,50000,600000,500000000,1000000]]]
+["block",0,1,1,[],[[1,[1,0],10000000000],[1,[2,0],10000000000]],[],[]]
+["commit",0,0]
+["place",0,[1,0,1,0,0,1,3000000,5000000000,10,0]]
+["place",0,[2,0,1,0,0,0,1000000,5000000000,10,1]]
+["cancel",0,[1,0,1,0],10]
+["block",21,2,2,[],[],[],[]]
+["commit",0,21]
+["best",0,0]
+"#;
 
-/// A proposal of a fill at a price at which both fees have parts of a quantum.
-#[test]
-fn a_proposed_fill_pays_its_fees(rt: HostRuntime) -> Result<(), Fail> {
-    assert!(rt; is_answered(rt.alloc(), FEES, FEES_REPLIES)?);
-    Ok(())
-}
+const CANCELLED_REPLIES: &str = "1 genesis 0 0
+2 block ok
+3 commit good 1 0 0
+4 place rested 0
+5 place filled
+6 cancel ok 1
+7 block ok
+8 commit good 2
+9 best 0 0 0 0
+";
 
-/// A taker without the margin stops, and the next one with just the margin is filled.
-#[test]
-fn a_taker_has_its_margin(rt: HostRuntime) -> Result<(), Fail> {
-    assert!(rt; is_answered(rt.alloc(), MARGIN, MARGIN_REPLIES)?);
-    Ok(())
-}
+const CANCELS: &str =
+    r#"["genesis",2,0,0,1,[500,200,5000,1500000,1000000],[[-10,-9,1000000,100000,-5,5000000000,50000,600000,500000000,1000000],[-9,-9,1000,100000,-6,3000000000,50000,600000,500000000,1000000]]]
+["block",0,1,1,[],[[1,[1,0],10000000000],[1,[2,0],10000000000]],[],[]]
+["commit",0,0]
+["place",0,[1,0,1,0,0,1,1000000,5000000000,23,0]]
+["place",0,[1,0,1,0,0,1,1000000,5000000000,1,0]]
+["cancel",0,[1,0,1,0],23]
+["cancel",0,[1,0,1,0],10]
+["cancel",0,[1,0,1,0],10]
+["place",0,[1,0,1,0,0,1,1000000,5000000000,10,0]]
+["place",0,[1,0,1,0,0,1,1000000,5000000000,11,0]]
+["place",0,[1,0,1,0,0,1,1000000,5000000000,11,0]]
+["place",0,[2,0,1,0,0,0,1000000,5000000000,10,2]]
+["place",0,[2,0,2,0,0,0,1000000,5000000000,10,0]]
+["place",0,[1,0,1,0,0,1,1000000,5000000000,12,0]]
+["place",0,[1,0,2,0,0,1,1000000,5000000000,12,0]]
+["cancelall",0,[1,0]]
+["propose",0,1,1]
+"#;
 
-/// Below its margin an account may only trade so that it is no riskier.
-#[test]
-fn an_account_grows_no_riskier(rt: HostRuntime) -> Result<(), Fail> {
-    assert!(rt; is_answered(rt.alloc(), NO_RISKIER, NO_RISKIER_REPLIES)?);
-    Ok(())
-}
+const CANCELS_REPLIES: &str = "1 genesis 0 0
+2 block ok
+3 commit good 1 0 0
+4 place refused 2
+5 place refused 3
+6 cancel refused 1
+7 cancel ok 0
+8 cancel refused 2 10
+9 place refused 6 10
+10 place rested 0
+11 place refused 4
+12 place refused 7
+13 place filled
+14 place refused 5
+15 place rested 0
+16 cancelall ok 1
+17 propose refused 1
+";
 
-/// Of two makers at a price the first one is filled.
-#[test]
-fn the_first_maker_at_a_price_is_filled(rt: HostRuntime) -> Result<(), Fail> {
-    assert!(rt; is_answered(rt.alloc(), ARRIVAL, ARRIVAL_REPLIES)?);
-    Ok(())
-}
-
-/// A maker of the own account leaves the book unfilled.
-#[test]
-fn an_own_maker_leaves_the_book(rt: HostRuntime) -> Result<(), Fail> {
-    assert!(rt; is_answered(rt.alloc(), OWN_MAKER, OWN_MAKER_REPLIES)?);
-    Ok(())
-}
-
-/// A fed price that the market may not have is in no proposal, and bad in a block.
-#[test]
-fn a_price_past_the_bound_is_not_proposed(rt: HostRuntime) -> Result<(), Fail> {
-    assert!(rt; is_answered(rt.alloc(), PRICE, PRICE_REPLIES)?);
-    Ok(())
-}
-
-/// Orders, proposals and reads that are refused, and what they leave as it was.
-#[test]
-fn a_node_refuses(rt: HostRuntime) -> Result<(), Fail> {
-    assert!(rt; is_answered(rt.alloc(), REFUSALS, REFUSALS_REPLIES)?);
-    Ok(())
-}
-
-/// A maker that leaves for its risk, rests of orders that are partly filled, a stop by a bound, two fed
-/// prices, and what a refused proposal and a refused block leave as it was.
-#[test]
-fn makers_leave_and_orders_stop(rt: HostRuntime) -> Result<(), Fail> {
-    assert!(rt; is_answered(rt.alloc(), MAKERS, MAKERS_REPLIES)?);
-    Ok(())
-}
-
-/// The greatest size rests; one past it, and one that is no multiple of the step, are refused.
-#[test]
-fn sizes_have_their_bounds(rt: HostRuntime) -> Result<(), Fail> {
-    assert!(rt; is_answered(rt.alloc(), SIZES, SIZES_REPLIES)?);
-    Ok(())
-}
+/// Scenarios of a node's life, with their whole replies.
+pub(super) const NODES: [(&str, &str); 12] = [
+    // A trade that one node matches and proposes, at another node that has matched its own. The block
+    // of the other drops its own queue, and its repeat has the wrong height.
+    (ANOTHER_NODE, ANOTHER_NODE_REPLIES),
+    // A proposal of a fill at a price at which both fees have parts of a quantum.
+    (FEES, FEES_REPLIES),
+    // A taker without the margin stops, and the next one with just the margin is filled.
+    (MARGIN, MARGIN_REPLIES),
+    // Below its margin an account may only trade so that it is no riskier.
+    (NO_RISKIER, NO_RISKIER_REPLIES),
+    // Of two makers at a price the first one is filled.
+    (ARRIVAL, ARRIVAL_REPLIES),
+    // A maker of the own account leaves the book unfilled.
+    (OWN_MAKER, OWN_MAKER_REPLIES),
+    // A fed price that the market may not have is in no proposal, and bad in a block.
+    (PRICE, PRICE_REPLIES),
+    // Orders, proposals and reads that are refused, and what they leave as it was.
+    (REFUSALS, REFUSALS_REPLIES),
+    // A maker that leaves for its risk, rests of orders that are partly filled, a stop by a bound, two fed
+    // prices, and what a refused proposal and a refused block leave as it was.
+    (MAKERS, MAKERS_REPLIES),
+    // The greatest size rests; one past it, and one that is no multiple of the step, are refused.
+    (SIZES, SIZES_REPLIES),
+    // An order is filled in part, and then cancelled before another node's block.
+    (CANCELLED, CANCELLED_REPLIES),
+    // Cancels that are refused or keep nothing out, and orders that a kept cancel refuses.
+    (CANCELS, CANCELS_REPLIES),
+];

@@ -1,5 +1,7 @@
 //! Whole scenarios with their whole replies.
 
+use super::closing::CLOSINGS;
+use super::node::NODES;
 use super::outcome;
 use dx_types::Status;
 use std::alloc::Global;
@@ -79,43 +81,33 @@ const FIRST_BAD_REPLIES: &str = "1 genesis 0 0
 8 commit good 2
 ";
 
+/// A genesis without markets and its audit; deposits and transfers at one of two nodes, of which the last has result 5;
+/// messages of which each after the first shows one more result; a fill at a price at which both fees have parts of a
+/// quantum; and a match whose second fill passes the size of its maker, and without which the block is good.
+const BLOCKS: [(&str, &str); 5] = [
+    (EMPTY, EMPTY_REPLIES),
+    (TRANSFERS, TRANSFERS_REPLIES),
+    (MESSAGES, MESSAGES_REPLIES),
+    (FEES, FEES_REPLIES),
+    (FIRST_BAD, FIRST_BAD_REPLIES),
+];
+
 /// Runs a scenario to its end. True says that just the replies are written.
-pub(super) fn is_answered(alloc: Global, input: &str, replies: &str) -> Result<bool, Fail> {
+fn is_answered(alloc: Global, input: &str, replies: &str) -> Result<bool, Fail> {
     let (status, sink) = outcome(alloc, input.as_bytes(), &[])?;
     Ok(status == Status::Done && sink.bytes() == replies.as_bytes())
 }
 
-/// A genesis without markets, and its audit.
 #[test]
-fn an_empty_genesis_is_audited(rt: HostRuntime) -> Result<(), Fail> {
-    assert!(rt; is_answered(rt.alloc(), EMPTY, EMPTY_REPLIES)?);
-    Ok(())
-}
-
-/// Deposits and transfers at one of two nodes. The last transfer has result 5.
-#[test]
-fn deposits_and_transfers_are_audited(rt: HostRuntime) -> Result<(), Fail> {
-    assert!(rt; is_answered(rt.alloc(), TRANSFERS, TRANSFERS_REPLIES)?);
-    Ok(())
-}
-
-/// Each message after the first shows one more result.
-#[test]
-fn messages_have_their_results(rt: HostRuntime) -> Result<(), Fail> {
-    assert!(rt; is_answered(rt.alloc(), MESSAGES, MESSAGES_REPLIES)?);
-    Ok(())
-}
-
-/// A fill at a price at which both fees have parts of a quantum.
-#[test]
-fn fees_round_up(rt: HostRuntime) -> Result<(), Fail> {
-    assert!(rt; is_answered(rt.alloc(), FEES, FEES_REPLIES)?);
-    Ok(())
-}
-
-/// The second fill of a match passes the size of its maker. Without it the block is good.
-#[test]
-fn the_first_bad_operation_is_named(rt: HostRuntime) -> Result<(), Fail> {
-    assert!(rt; is_answered(rt.alloc(), FIRST_BAD, FIRST_BAD_REPLIES)?);
+fn scenarios_are_answered(rt: HostRuntime) -> Result<(), Fail> {
+    for (input, replies) in BLOCKS {
+        assert!(rt; is_answered(rt.alloc(), input, replies)?, "{replies}");
+    }
+    for (input, replies) in CLOSINGS {
+        assert!(rt; is_answered(rt.alloc(), input, replies)?, "{replies}");
+    }
+    for (input, replies) in NODES {
+        assert!(rt; is_answered(rt.alloc(), input, replies)?, "{replies}");
+    }
     Ok(())
 }

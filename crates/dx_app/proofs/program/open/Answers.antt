@@ -1,4 +1,6 @@
 use Rattle.dx_app.proofs.Runs.{run_at_fault, reading_fails, broken_opening, opens, opening_ends}
+use Rattle.std.proofs.Common.{ap, Err}
+use Rattle.dx_app.proofs.Prompt.{read_failed, stops}
 use Rattle.dx_app.proofs.program.open.Goals as goal
 
 pub returns-in-Err-clause-ended : goal.returns-in-Err-clause-ended
@@ -18,3 +20,6 @@ pub returns-clause-ended : goal.returns-clause-ended
 returns-clause-ended g c =
     let cuts = rw (c.in-Line.is, ← c.as_slice.ensures.value) at c.in-Ok.ensures.cut in
     opening_ends _ _ _ _ _ _ _ c.in-Err-read_genesis.fault c.end_at_line.result c.requires cuts c.in-Err-read_genesis.ensures.read c.end_at_line.ensures.said
+
+pub returns-in-Err-clause-stops : goal.returns-in-Err-clause-stops
+returns-in-Err-clause-stops g c = λ e. stops _ _ _ _ (c.in-Err.ensures.in_line (ap Err (read_failed c.in-Err.error c.end_reading.result c.end_reading.ensures e)))

@@ -21,4 +21,4 @@ pub returns-clause-kept_other : goal.returns-clause-kept_other
 returns-clause-kept_other g c = λ node kept ours. lines_never _ _ _ c.answer_all.result _ c.answer_all.ensures.said refl refl
 
 pub returns-clause-complete : goal.returns-clause-complete
-returns-clause-complete g c = lines_whole _ _ _ c.answer_all.result _ _ c.answer_all.ensures.said c.answer_all.ensures.read_fault c.answer_all.ensures.write_fault c.answer_all.ensures.keep_fault
+returns-clause-complete g c = lines_whole _ _ _ c.answer_all.result _ _ c.answer_all.ensures.said c.answer_all.ensures.caused.read_fault c.answer_all.ensures.caused.write_fault c.answer_all.ensures.caused.keep_fault

@@ -21,4 +21,4 @@ pub returns-clause-kept_other : goal.returns-clause-kept_other
 returns-clause-kept_other g c = λ node kept ours. run_never c.args.words.now _ _ _ c.obey.result _ c.obey.ensures.said refl refl (λ e. cc)
 
 pub returns-clause-complete : goal.returns-clause-complete
-returns-clause-complete g c = run_whole c.args.words.now _ _ _ c.obey.result _ _ c.obey.ensures.said c.obey.ensures.read_fault c.obey.ensures.write_fault c.obey.ensures.keep_fault
+returns-clause-complete g c = run_whole c.args.words.now _ _ _ c.obey.result _ _ c.obey.ensures.said c.obey.ensures.caused.read_fault c.obey.ensures.caused.write_fault c.obey.ensures.caused.keep_fault

@@ -1,9 +1,10 @@
 use Rattle.std.proofs.Common.{inl, refl}
 use Rattle.dx_app.proofs.Runs.{run_at_fault, over_ends, none_over}
+use Rattle.dx_app.proofs.Prompt.{read_near, failed_near, failed_in_line, stops}
 use Rattle.dx_app.proofs.replay.end_of_lines.Goals as goal
 
-pub returns-in_default-clause-said : goal.returns-in_default-clause-said
-returns-in_default-clause-said g c = λ w. run_at_fault _ _ _ _ (inl refl)
+pub returns-in-Err-clause-said : goal.returns-in-Err-clause-said
+returns-in-Err-clause-said g c = λ w. run_at_fault _ _ _ _ (inl refl)
 
 pub returns-then-more-clause-said : goal.returns-then-more-clause-said
 returns-then-more-clause-said g c = λ w.
@@ -14,3 +15,15 @@ pub returns-clause-said : goal.returns-clause-said
 returns-clause-said g c = λ w.
     let none = rw c.if-more.false at c.in-Ok.ensures.more in
     none_over _ _ _ _ _ w c.in-Ok.ensures.on none.0 none.1
+
+pub returns-in-Err-clause-near : goal.returns-in-Err-clause-near
+returns-in-Err-clause-near g c = failed_near _ _ _ c.in-Err.ensures.empty c.in-Err.ensures.kept
+
+pub returns-in-Err-clause-stops : goal.returns-in-Err-clause-stops
+returns-in-Err-clause-stops g c = λ _. stops _ _ _ _ (failed_in_line _ _ _ c.in-Err.ensures.empty c.in-Err.ensures.kept)
+
+pub returns-then-more-clause-near : goal.returns-then-more-clause-near
+returns-then-more-clause-near g c = read_near _ _ _ _ c.in-Ok.ensures.on c.in-Ok.ensures.few
+
+pub returns-clause-near : goal.returns-clause-near
+returns-clause-near g c = read_near _ _ _ _ c.in-Ok.ensures.on c.in-Ok.ensures.few

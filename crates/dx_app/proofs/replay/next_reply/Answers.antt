@@ -1,5 +1,7 @@
 use Rattle.std.proofs.lemmas.Result.{on_ok_weaker, MatchResult-weaker}
 use Rattle.dx_app.proofs.Runs.{run_at_fault, reading_fails, line_goes_on, line_ends, broken_ends, end_ends}
+use Rattle.std.proofs.Common.{ap, Err}
+use Rattle.dx_app.proofs.Prompt.{read_failed, stops}
 use Rattle.dx_app.proofs.replay.next_reply.Goals as goal
 
 pub returns-in-Err-clause-ended : goal.returns-in-Err-clause-ended
@@ -24,3 +26,6 @@ pub returns-in-End-clause-ended : goal.returns-in-End-clause-ended
 returns-in-End-clause-ended g c = λ w st.
     let cuts = rw c.in-End.is at c.in-Ok.ensures.cut in
     end_ends _ _ _ _ _ _ w c.args.number cuts
+
+pub returns-in-Err-clause-stops : goal.returns-in-Err-clause-stops
+returns-in-Err-clause-stops g c = λ e. stops _ _ _ _ (c.in-Err.ensures.in_line (ap Err (read_failed c.in-Err.error c.end_reading.result c.end_reading.ensures e)))

@@ -8,4 +8,4 @@ returns-in_ok-fill-in-Ok c =
 
 pub returns-in-Err : goal.returns-in-Err
 returns-in-Err c =
-    has_not_proposed c.args.self.now c.args.node c.args.slot c.args.time c.index.result.now c.in-Err.fault c.propose_refusal.result c.requires c.index.ensures c.in-Err.ensures.refused c.propose_refusal.ensures
+    has_not_proposed c.args.self.now c.args.node c.args.slot c.args.time c.index.result.now c.refusal.result c.refused_or_memory.result c.requires c.index.ensures (λ p st. rw c.refusal.ensures (c.in-Err.ensures.refused p st)) c.refused_or_memory.ensures

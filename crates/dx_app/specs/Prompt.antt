@@ -1,0 +1,80 @@
+-- How far a run reads, and what it has answered by then: each line is answered before the next one is read.
+use Rattle.std.specs.Prelude.{◌≡◌, ℕ, ◌≤◌, List, [], ◌∷◌, ◌++◌, length, false, Option}
+use Rattle.std.specs.Io.KnownBytes.{Appends, Consumes}
+use Rattle.dx_types.specs.declared.status.Status.TheVariants.{Done}
+use Rattle.dx_app.specs.Lines.{longest_line, has_newline}
+use Rattle.dx_app.specs.Transcript.{Told, ended, scenario}
+
+-- the bytes of a source or a sink, where it tells them
+abbrev pub Known : Type 0
+Known = Option (List ℕ)
+
+-- the most bytes that are read at once
+abbrev pub buffer : ℕ
+buffer = 4096
+
+-- none of the bytes is a newline
+abbrev pub HasNoNewline : List ℕ → Type 0
+HasNoNewline bytes = has_newline bytes ≡ false
+
+-- the front of a line, and then at most one buffer
+pub record IsNear (bytes : List ℕ) : Type 0 where
+  pub front : List ℕ
+  pub ahead : List ℕ
+  pub joined : bytes ≡ front ++ ahead
+  pub unbroken : HasNoNewline front
+  pub short : length front ≤ longest_line
+  pub few : length ahead ≤ buffer
+
+-- bytes are read behind those at hand, and together they are of a kind
+pub record ReadsTo (at_hand : List ℕ) (left_before left : Known) (IsOfKind : List ℕ → Type 0) : Type 0 where
+  pub got : List ℕ
+  pub read : Consumes left_before left got
+  pub kind : IsOfKind (at_hand ++ got)
+
+-- something is written, or nothing
+abbrev pub AppendsSome : Known → Known → Type 0
+AppendsSome written_before written = (more : List ℕ) × Appends written_before written more
+
+-- a failed read ends a run within a line, and nothing is written
+pub record StopsInLine (at_hand : List ℕ) (left_before left written_before written : Known) : Type 0 where
+  pub in_line : ReadsTo at_hand left_before left HasNoNewline
+  pub silent : Appends written_before written []
+
+-- of the bytes at hand and those that were read there are whole lines at first, which are answered, and then others;
+-- what is told of those lines alone is written whole, and then some more
+pub record HasAnswered (whole : List ℕ → Told) (at_hand : List ℕ)
+    (left_before left written_before written : Known) (others more : List ℕ) : Type 0 where
+  pub got : List ℕ
+  pub read : Consumes left_before left got
+  pub lines : List ℕ
+  pub joined : at_hand ++ got ≡ lines ++ others
+  pub done : (whole lines).status ≡ Done
+  pub wrote : Appends written_before written ((whole lines).bytes ++ more)
+
+-- all whole lines are answered, and nothing else is written
+abbrev pub AnswersWholeLines : (List ℕ → Told) → List ℕ → Known → Known → Known → Known → Type 0
+AnswersWholeLines whole at_hand left_before left written_before written =
+    (others : List ℕ) × HasNoNewline others
+    × HasAnswered whole at_hand left_before left written_before written others []
+
+-- all whole lines are answered but for one front of a line and at most one buffer
+abbrev pub AnswersAllBehind : (List ℕ → Told) → List ℕ → Known → Known → Known → Known → Type 0
+AnswersAllBehind whole at_hand left_before left written_before written =
+    (others more : List ℕ) × IsNear others
+    × HasAnswered whole at_hand left_before left written_before written others more
+
+-- what is told of whole lines alone, which need not be any
+abbrev pub lines_alone : List ℕ → Told
+lines_alone [] = ended Done
+lines_alone (b ∷ bytes) = scenario (b ∷ bytes)
+
+-- just the replies to all lines are written that are whole in what was taken from the source
+abbrev pub RepliesAreOut : Known → Known → Known → Known → Type 0
+RepliesAreOut left_before left written_before written =
+    AnswersWholeLines lines_alone [] left_before left written_before written
+
+-- the source was read no further than the front of a line whose reply need not be written yet, and at most one buffer
+abbrev pub ReadsNoFurther : Known → Known → Known → Known → Type 0
+ReadsNoFurther left_before left written_before written =
+    AnswersAllBehind lines_alone [] left_before left written_before written
