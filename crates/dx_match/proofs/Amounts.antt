@@ -24,8 +24,8 @@ use Rattle.dx_sound.proofs.Settlement.{filled-settle_step}
 use Rattle.dx_sound.proofs.Sides.{sides}
 use Rattle.dx_sound.proofs.Trades.{option_cases, amount_parts}
 use Rattle.dx_accounts.specs.Steady.{IsSteady}
-use Rattle.dx_fill.specs.Conditions.{IsTradable}
-use Rattle.dx_fill.proofs.Before.{tradable_fillable}
+use Rattle.dx_trade.specs.Conditions.{IsTradable}
+use Rattle.dx_trade.proofs.Tradables.{tradable_fillable}
 use Rattle.dx_sound.proofs.Fills.{other_filled}
 
 at_true : {X : Type 0} (b : Bool) (x y : X) → b ≡ true → cond b x y ≡ x

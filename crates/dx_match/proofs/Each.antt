@@ -1,5 +1,4 @@
 -- What filters leave of a list.
-pub use Rattle.dx_book.proofs.Walks.{each_at, each_found, from_place, first_behind}
 use Rattle.std.proofs.Common.{◌≡◌, Bool, true, false, cond, List, [], ◌∷◌, filter, refl, ap}
 use Rattle.std.specs.List.{AllByRecursion}
 

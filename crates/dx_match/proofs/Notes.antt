@@ -11,7 +11,7 @@ use Rattle.dx_node_spec.specs.Book.{left}
 use Rattle.dx_node_spec.specs.Taking.{Taken, Filled as FilledMaker, leaves, with_fill, refused_maker}
 use Rattle.dx_ledger.specs.declared.faults.OpFault.{OpFault}
 use Rattle.dx_ledger.specs.declared.faults.OpFault.TheVariants.{Code}
-use Rattle.dx_trade.specs.Refusals.{IsFaultOf}
+use Rattle.dx_accounts.specs.Faults.{IsFaultOf}
 use Rattle.dx_match.specs.declared.taken.Filled.{Filled}
 use Rattle.dx_match.specs.declared.taken.Taking.{Taking}
 use Rattle.dx_match.specs.Seen.{group_of, seen}

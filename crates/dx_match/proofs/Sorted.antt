@@ -1,5 +1,4 @@
 -- A list in the order of a test: what a filter leaves is in order too, and nothing comes before what stands before it.
-pub use Rattle.dx_book.proofs.Walks.{length_sorted, filter_shorter}
 use Rattle.std.proofs.Common.{◌≡◌, ℕ, suc, Bool, true, false, cond, Some, List, [], ◌∷◌, filter, drop, refl, sym, ap, ◌∙◌}
 use Prim.Native.Nat.{zero}
 use Rattle.std.specs.Prelude.{slice_get}

@@ -9,9 +9,10 @@ use Rattle.dx_book.specs.declared.key.OrderKey.{OrderKey}
 use Rattle.dx_sound.specs.Within.{SoundWithin, SameBase, StepKeeps}
 use Rattle.dx_spec.proofs.Places.{at_all}
 use Rattle.dx_accounts.specs.Steady.{IsSteady}
-use Rattle.dx_fill.specs.Conditions.{IsTradable, CanFillBoth}
+use Rattle.dx_trade.specs.Conditions.{IsTradable}
+use Rattle.dx_fill.specs.Conditions.{CanFillBoth}
 use Rattle.dx_match.specs.Conditions.{IsMaker, IsBookFor, KeepsSteady}
-use Rattle.dx_match.proofs.Each.{each_found}
+use Rattle.dx_book.proofs.Walks.{each_found}
 use Rattle.dx_operations.proofs.Standing.{tradable_filled as tradable_kept}
 
 -- a state keeps itself

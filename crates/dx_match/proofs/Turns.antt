@@ -8,7 +8,7 @@ use Rattle.dx_spec.specs.State.{State}
 use Rattle.dx_node_spec.specs.Book.{without, makers_of}
 use Rattle.dx_node_spec.specs.Taking.{Taken, nothing_taken, take_one, closed_match, within_limits, take_order}
 use Rattle.dx_match.specs.Stages.{is_over, tried, take_maker, opposite, takable}
-use Rattle.dx_match.proofs.Each.{from_place}
+use Rattle.dx_book.proofs.Walks.{from_place}
 use Rattle.dx_match.proofs.Sides.{makers_are}
 
 one_stays : (queue : List Op) (o : Order) (t : Taken) (m : Order) → is_over t.state o t.stop ≡ true → take_one queue o t m ≡ t

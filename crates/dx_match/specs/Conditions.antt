@@ -4,7 +4,7 @@ use Rattle.dx_types.specs.declared.Order.{Order}
 use Rattle.dx_spec.specs.State.{State, is_short_term}
 use Rattle.dx_sound.specs.Within.{SoundWithin, StepKeeps}
 use Rattle.dx_accounts.specs.Steady.{IsSteady}
-use Rattle.dx_fill.specs.Conditions.{IsTradable}
+use Rattle.dx_trade.specs.Conditions.{IsTradable}
 
 -- a short-term order that may be traded
 pub record IsMaker (s : State) (o : Order) : Type 0 where

@@ -8,7 +8,7 @@ ghost use Rattle.dx_node_spec.specs.Taking.{nothing_taken, take_one, take_order}
 ghost use Rattle.dx_sound.specs.Within.{SoundWithin, StepKeeps};
 ghost use Rattle.dx_ledger.specs.Marks.{KeepsMarks};
 ghost use Rattle.dx_accounts.specs.Steady.{IsSteady};
-ghost use Rattle.dx_fill.specs.Conditions.{IsTradable};
+ghost use Rattle.dx_trade.specs.Conditions.{IsTradable};
 ghost use Rattle.dx_match.specs.Seen.{seen, ended};
 ghost use Rattle.dx_match.specs.Conditions.{IsBookFor, KeepsSteady};
 

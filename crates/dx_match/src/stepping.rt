@@ -8,7 +8,7 @@ ghost use Rattle.dx_spec.specs.Fills.{fill_step};
 ghost use Rattle.dx_node_spec.specs.Book.{left as left_in, without};
 ghost use Rattle.dx_node_spec.specs.Taking.{leaves, with_fill, take_one};
 ghost use Rattle.dx_ledger.specs.Marks.{KeepsMarks};
-ghost use Rattle.dx_trade.specs.Refusals.{IsFaultOf};
+ghost use Rattle.dx_accounts.specs.Faults.{IsFaultOf};
 ghost use Rattle.dx_match.specs.Seen.{seen};
 ghost use Rattle.dx_fill.specs.Conditions.{CanFillBoth};
 ghost use Rattle.dx_match.specs.Conditions.{KeepsSteady};

@@ -11,7 +11,7 @@ use Rattle.dx_book.specs.Ways.{next_of}
 use Rattle.dx_book.specs.Held.{Held, named, order_at}
 use Rattle.dx_book.specs.declared.key.OrderKey.{OrderKey}
 use Rattle.dx_match.specs.Stages.{opposite, takable}
-use Rattle.dx_match.proofs.Each.{from_place, each_at, first_behind}
+use Rattle.dx_book.proofs.Walks.{from_place, each_at, first_behind}
 use Rattle.dx_match.proofs.Sides.{makers_are, best_is, next_at, none_crosses, none_left, all_other}
 
 -- it has makers in a book

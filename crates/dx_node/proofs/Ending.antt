@@ -11,7 +11,7 @@ use Rattle.dx_spec.specs.Step.{◌>>◌, refuse}
 use Rattle.dx_spec.specs.State.{is_short_term, is_same_account}
 use Rattle.dx_spec.specs.Orders.{is_same_id}
 use Rattle.dx_spec.proofs.Each.{all_filter}
-use Rattle.dx_match.proofs.Sorted.{filter_shorter}
+use Rattle.dx_book.proofs.Walks.{filter_shorter}
 use Rattle.dx_node_spec.specs.Book.{without}
 use Rattle.dx_node_spec.specs.Queue.{placed_by}
 use Rattle.dx_node_spec.specs.Refusals.{cancels_full}

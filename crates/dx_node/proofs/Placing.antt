@@ -18,7 +18,7 @@ use Rattle.dx_spec.proofs.Steps.{passed}
 use Rattle.dx_spec.proofs.Scripts.{unit_passes, ok_answer}
 use Rattle.dx_accounts.specs.Steady.{IsSteady}
 use Rattle.dx_rules.specs.Settled.{IsSettled}
-use Rattle.dx_fill.specs.Conditions.{IsTradable}
+use Rattle.dx_trade.specs.Conditions.{IsTradable}
 use Rattle.dx_match.specs.Conditions.{IsMaker, IsBookFor}
 use Rattle.dx_node_spec.specs.Refusals.{book_full, queue_full}
 use Rattle.dx_node_spec.specs.Book.{left, without}
@@ -32,7 +32,7 @@ use Rattle.dx_speculation.proofs.Closing.{taken_is, taking_is_faithful}
 use Rattle.dx_speculation.proofs.Standing.{all_placeable}
 use Rattle.dx_speculation.proofs.Placing.{may_place, placing_keeps_faithful}
 use Rattle.dx_speculation.proofs.Events.{speculative_is_sound}
-use Rattle.dx_match.proofs.Sorted.{filter_shorter}
+use Rattle.dx_book.proofs.Walks.{filter_shorter}
 use Rattle.dx_operations.proofs.Standing.{fits, market_count}
 use Rattle.dx_spec.proofs.Each.{all_weaker, all_both, all_push, all_filter}
 use Rattle.dx_node.specs.declared.refusal.Refusal.{Refusal as Told}

@@ -10,7 +10,7 @@ use Rattle.dx_spec.specs.Bounds.{most_orders}
 use Rattle.dx_spec.specs.Orders.{is_same_id}
 use Rattle.dx_node_spec.specs.Book.{resting, without}
 use Rattle.dx_node_spec.specs.Placing.{is_among, not_gone}
-use Rattle.dx_match.proofs.Sorted.{filter_shorter}
+use Rattle.dx_book.proofs.Walks.{filter_shorter}
 use Rattle.dx_node.specs.Trades.{beside}
 use Rattle.dx_spec.proofs.Each.{all_weaker, all_both, all_pass}
 use Rattle.dx_match.proofs.Sides.{all_other}

@@ -17,7 +17,7 @@ use Rattle.dx_margin.specs.Ranges.{IsMarket}
 use Rattle.dx_accounts.specs.Steady.{IsSteady}
 use Rattle.dx_accounts.proofs.Coverage.{steady_markets, if_known}
 use Rattle.dx_accounts.proofs.Dusts.{at_number}
-use Rattle.dx_fill.specs.Conditions.{IsTradable}
+use Rattle.dx_trade.specs.Conditions.{IsTradable}
 use Rattle.dx_match.specs.Conditions.{IsMaker}
 use Rattle.dx_impact.specs.Ranges.{IsPriced, HasPrices, HasMarket}
 use Rattle.dx_node_spec.specs.Votes.{vote}

@@ -6,7 +6,7 @@ ghost use Rattle.std.specs.List.{list_any};
 ghost use Rattle.dx_spec.specs.Bounds.{most_orders};
 ghost use Rattle.dx_ledger.specs.Marks.{KeepsMarks};
 ghost use Rattle.dx_accounts.specs.Steady.{IsSteady};
-ghost use Rattle.dx_fill.specs.Conditions.{IsTradable};
+ghost use Rattle.dx_trade.specs.Conditions.{IsTradable};
 ghost use Rattle.dx_match.specs.Conditions.{IsBookFor};
 ghost use Rattle.dx_match.specs.Seen.{ended};
 ghost use Rattle.dx_node_spec.specs.Book.{resting};
