@@ -78,7 +78,7 @@ fn set_first<L: Ledger>(l: &mut L, m: &MarketInfo) -> Result<(), NoMemory>
     requires known { 0 < length (L.content l.old).markets }
     requires params { IsOfGenesis (L.content l.old) 0 m.now }
     requires dust { m.now.dust ≡ pos 0 }
-    ensures params { OnOk result (IfSome (slice_get (L.content l.new).markets 0) (λ x. IsOfGenesis (L.content l.new) 0 x)) }
+    ensures params { OnOk result (IfSome (slice_get (L.content l.new).markets 0) (IsOfGenesis (L.content l.new) 0)) }
     ensures dust { OnOk result (IfSome (slice_get (L.content l.new).markets 0) (λ x. x.dust ≡ pos 0)) }
 {
     l.set_market(0, m)
@@ -86,7 +86,7 @@ fn set_first<L: Ledger>(l: &mut L, m: &MarketInfo) -> Result<(), NoMemory>
 
 // Puts market 0 at an index, with an empty fund and no dust.
 fn put_index<L: Ledger>(l: &mut L, index: i64) -> Result<(), Fail>
-    ensures params { OnOk result (IfSome (slice_get (L.content l.new).markets 0) (λ x. IsOfGenesis (L.content l.new) 0 x)) }
+    ensures params { OnOk result (IfSome (slice_get (L.content l.new).markets 0) (IsOfGenesis (L.content l.new) 0)) }
     ensures dust { OnOk result (IfSome (slice_get (L.content l.new).markets 0) (λ x. x.dust ≡ pos 0)) }
 {
     let params = *l.params().markets.get(0).ok_or("no market")?;
