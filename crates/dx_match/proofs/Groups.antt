@@ -8,17 +8,18 @@ use Rattle.dx_types.specs.declared.OrderId.{OrderId}
 use Rattle.dx_types.specs.declared.Order.{Order}
 use Rattle.dx_types.specs.declared.Fill.{Fill}
 use Rattle.dx_types.specs.declared.Op.{Op}
-use Rattle.dx_types.specs.declared.Op.TheVariants.{Place, Match}
+use Rattle.dx_types.specs.declared.Op.TheVariants.{Place, Remove}
 use Rattle.dx_spec.specs.State.{State, is_short_term}
 use Rattle.dx_spec.specs.Orders.{is_same_id}
 use Rattle.dx_spec.specs.Operations.{Placed}
 use Rattle.dx_spec.specs.Blocks.{has_too_many_ops}
 use Rattle.dx_node_spec.specs.Queue.{with_placed, placed_by, holds_order, places}
-use Rattle.dx_node_spec.specs.Taking.{Taken, fills_of, makers_in, closed, closed_match, within_limits}
+use Rattle.dx_node_spec.specs.Taking.{Taken, fills_of, makers_in, closed, within_limits}
 use Rattle.dx_match.specs.declared.taken.Filled.{Filled}
+use Rattle.dx_match.specs.declared.taken.Taker.{Taker}
 use Rattle.dx_match.specs.declared.taken.Taking.{Taking}
 use Rattle.dx_match.specs.Seen.{group_of, seen}
-use Rattle.dx_match.specs.Stages.{with_group}
+use Rattle.dx_match.specs.Takers.{takers_of, op_of, closed_for, with_group}
 
 -- an operation that places the id
 pub placed_here : (placed : Placed) (op : Op) (o : Order) (id : OrderId) → op ≡ Place o → is_same_id id o.id ≡ true → Some o ≡ get (with_placed placed op) id
@@ -84,47 +85,47 @@ unfolding places
 no_places placed = refl
 
 -- the operations of a group with fills, behind others
-group_added : (queue ops placed both after : List Op) (o : Order) (group : List Filled) (fills : List Fill)
-    → placed ++ places (placed_by (queue ++ placed)) (o ∷ []) ≡ ops ++ places (placed_by (queue ++ ops)) (makers_in (group_of group) ++ o ∷ [])
-    → both ++ places (placed_by (queue ++ both)) [] ≡ placed ++ places (placed_by (queue ++ placed)) (o ∷ [])
-    → fills ≡ fills_of (group_of group) → after ≡ both ++ Match o.id fills ∷ [] → after ≡ with_group queue o ops (group_of group)
+group_added : (queue ops placed both after : List Op) (k : Taker) (op : Op) (group : List Filled) (fills : List Fill)
+    → placed ++ places (placed_by (queue ++ placed)) (takers_of k) ≡ ops ++ places (placed_by (queue ++ ops)) (makers_in (group_of group) ++ takers_of k)
+    → both ++ places (placed_by (queue ++ both)) [] ≡ placed ++ places (placed_by (queue ++ placed)) (takers_of k)
+    → fills ≡ fills_of (group_of group) → op ≡ op_of k fills → after ≡ both ++ op ∷ [] → after ≡ with_group queue k ops (group_of group)
 unfolding with_group
-group_added queue ops placed both after o group fills e f i j =
-    let all_placed : both ≡ ops ++ places (placed_by (queue ++ ops)) (makers_in (group_of group) ++ o ∷ []) =
+group_added queue ops placed both after k op group fills e f i n j =
+    let all_placed : both ≡ ops ++ places (placed_by (queue ++ ops)) (makers_in (group_of group) ++ takers_of k) =
     sym (append-nil both) ∙ ap (λ l. both ++ l) (sym (no_places (placed_by (queue ++ both)))) ∙ f ∙ e in
-    j ∙ ap (λ l. both ++ Match o.id l ∷ []) i ∙ ap (λ l. l ++ Match o.id (fills_of (group_of group)) ∷ []) all_placed
+    j ∙ ap (λ x. both ++ x ∷ []) (n ∙ ap (op_of k) i) ∙ ap (λ l. l ++ op_of k (fills_of (group_of group)) ∷ []) all_placed
 
-pub group_pushed : {E : Type 0} (queue ops placed both after : List Op) (o : Order) (group : List Filled) (fills : List Fill) (r : Result (Unit {0}) E)
-    → placed ++ places (placed_by (queue ++ placed)) (o ∷ []) ≡ ops ++ places (placed_by (queue ++ ops)) (makers_in (group_of group) ++ o ∷ [])
-    → both ++ places (placed_by (queue ++ both)) [] ≡ placed ++ places (placed_by (queue ++ placed)) (o ∷ [])
-    → fills ≡ fills_of (group_of group) → after ≡ cond (is_ok r) (both ++ Match o.id fills ∷ []) both → OnOk r (after ≡ with_group queue o ops (group_of group))
-group_pushed queue ops placed both after o group fills (Ok u) e f i j = group_added queue ops placed both after o group fills e f i j
-group_pushed queue ops placed both after o group fills (Err x) e f i j = tt
+pub group_pushed : {E : Type 0} (queue ops placed both after : List Op) (k : Taker) (op : Op) (group : List Filled) (fills : List Fill) (r : Result (Unit {0}) E)
+    → placed ++ places (placed_by (queue ++ placed)) (takers_of k) ≡ ops ++ places (placed_by (queue ++ ops)) (makers_in (group_of group) ++ takers_of k)
+    → both ++ places (placed_by (queue ++ both)) [] ≡ placed ++ places (placed_by (queue ++ placed)) (takers_of k)
+    → fills ≡ fills_of (group_of group) → op ≡ op_of k fills → after ≡ cond (is_ok r) (both ++ op ∷ []) both → OnOk r (after ≡ with_group queue k ops (group_of group))
+group_pushed queue ops placed both after k op group fills (Ok u) e f i n j = group_added queue ops placed both after k op group fills e f i n j
+group_pushed queue ops placed both after k op group fills (Err x) e f i n j = tt
 
 -- a taking with other fills that stand in no operation
 abbrev with_fills : State → Taking → List Filled → Taken
-with_fills s p g = record { state = s; group = group_of g; ops = p.ops; gone = p.gone; filled = p.filled; fills = p.fills; offsets = 0; stop = p.stop }
+with_fills s p g = record { state = s; group = group_of g; ops = p.ops; gone = p.gone; filled = p.filled; fills = p.fills; offsets = p.offsets; stop = p.stop }
 
 -- a group with no fill is closed
-pub closed_already : (queue : List Op) (o : Order) (s : State) (p : Taking) → p.group ≡ [] → seen s p ≡ closed_match queue o (seen s p)
+pub closed_already : (queue : List Op) (k : Taker) (s : State) (p : Taking) → p.group ≡ [] → seen s p ≡ closed_for queue k (seen s p)
 unfolding closed
-closed_already queue o s p e = ap (with_fills s p) e ∙ sym (ap (λ g. closed_match queue o (with_fills s p g)) e)
+closed_already queue k s p e = ap (with_fills s p) e ∙ sym (ap (λ g. closed_for queue k (with_fills s p g)) e)
 
-with_operations : (queue : List Op) (o : Order) (s : State) (p : Taking) (g : List Filled) → 0 < length g
-    → record { state = s; group = []; ops = with_group queue o p.ops (group_of g); gone = p.gone; filled = p.filled; fills = p.fills; offsets = 0; stop = p.stop }
-    ≡ closed_match queue o (with_fills s p g)
+with_operations : (queue : List Op) (k : Taker) (s : State) (p : Taking) (g : List Filled) → 0 < length g
+    → record { state = s; group = []; ops = with_group queue k p.ops (group_of g); gone = p.gone; filled = p.filled; fills = p.fills; offsets = p.offsets; stop = p.stop }
+    ≡ closed_for queue k (with_fills s p g)
 unfolding closed with_group
-with_operations queue o s p [] h = absurd (omega arith)
-with_operations queue o s p (x ∷ xs) h = refl
+with_operations queue k s p [] h = absurd (omega arith)
+with_operations queue k s p (x ∷ xs) h = refl
 
 -- and one with fills becomes operations
-pub closes : (queue ops : List Op) (o : Order) (s : State) (p : Taking) (group same rest : List Filled) → 0 < length p.group → group ≡ p.group → same ≡ group → rest ≡ []
-    → ops ≡ with_group queue o p.ops (group_of same)
-    → record { state = s; group = group_of rest; ops = ops; gone = p.gone; filled = p.filled; fills = p.fills; offsets = 0; stop = p.stop } ≡ closed_match queue o (seen s p)
-closes queue ops o s p group same rest h i k n e =
-    ap (λ g. record { state = s; group = group_of g; ops = ops; gone = p.gone; filled = p.filled; fills = p.fills; offsets = 0; stop = p.stop }) n
-    ∙ ap (λ l. record { state = s; group = []; ops = l; gone = p.gone; filled = p.filled; fills = p.fills; offsets = 0; stop = p.stop }) (e ∙ ap (λ g. with_group queue o p.ops (group_of g)) (k ∙ i))
-    ∙ with_operations queue o s p p.group h
+pub closes : (queue ops : List Op) (k : Taker) (s : State) (p : Taking) (group same rest : List Filled) → 0 < length p.group → group ≡ p.group → same ≡ group → rest ≡ []
+    → ops ≡ with_group queue k p.ops (group_of same)
+    → record { state = s; group = group_of rest; ops = ops; gone = p.gone; filled = p.filled; fills = p.fills; offsets = p.offsets; stop = p.stop } ≡ closed_for queue k (seen s p)
+closes queue ops k s p group same rest h i l n e =
+    ap (λ g. record { state = s; group = group_of g; ops = ops; gone = p.gone; filled = p.filled; fills = p.fills; offsets = p.offsets; stop = p.stop }) n
+    ∙ ap (λ x. record { state = s; group = []; ops = x; gone = p.gone; filled = p.filled; fills = p.fills; offsets = p.offsets; stop = p.stop }) (e ∙ ap (λ g. with_group queue k p.ops (group_of g)) (l ∙ i))
+    ∙ with_operations queue k s p p.group h
 
 limits_kept : (queue : List Op) (t : Taken) → has_too_many_ops (queue ++ t.ops) ≡ false → within_limits queue t ≡ Some t
 unfolding within_limits
@@ -138,16 +139,24 @@ tested : (queue same ops more : List Op) (many b : Bool) → many ≡ has_too_ma
 tested queue same ops more many b e f g h = ap has_too_many_ops (ap (λ l. l ++ ops) (sym g) ∙ ap (λ l. same ++ l) (sym h)) ∙ sym e ∙ f
 
 -- a taking that ends within the limits
-pub ends_within : (queue same more : List Op) (o : Order) (s : State) (p q : Taking) (many : Bool) → seen s q ≡ closed_match queue o (seen s p) → q.group ≡ []
+pub ends_within : (queue same more : List Op) (s : State) (q : Taking) (many : Bool) → q.group ≡ []
     → many ≡ has_too_many_ops (same ++ more) → many ≡ false → same ≡ queue → more ≡ q.ops
-    → within_limits queue (closed_match queue o (seen s p)) ≡ Some (record { state = s; group = []; ops = q.ops; gone = q.gone; filled = q.filled; fills = q.fills; offsets = 0; stop = q.stop })
-ends_within queue same more o s p q many c n f g h i =
-    ap (within_limits queue) (sym c) ∙ limits_kept queue (seen s q) (tested queue same q.ops more many false f g h i)
-    ∙ ap (λ l. Some (record { state = s; group = group_of l; ops = q.ops; gone = q.gone; filled = q.filled; fills = q.fills; offsets = 0; stop = q.stop })) n
+    → within_limits queue (seen s q) ≡ Some (with_fills s q [])
+ends_within queue same more s q many n f g h i =
+    limits_kept queue (seen s q) (tested queue same q.ops more many false f g h i) ∙ ap (λ l. Some (with_fills s q l)) n
 
 -- and one that would not
-pub ends_beyond : (queue same more : List Op) (o : Order) (s : State) (p q : Taking) (many : Bool) → seen s q ≡ closed_match queue o (seen s p)
+pub ends_beyond : (queue same more : List Op) (s : State) (q : Taking) (many : Bool)
     → many ≡ has_too_many_ops (same ++ more) → many ≡ true → same ≡ queue → more ≡ q.ops
-    → within_limits queue (closed_match queue o (seen s p)) ≡ None
-ends_beyond queue same more o s p q many c f g h i =
-    ap (within_limits queue) (sym c) ∙ limits_passed queue (seen s q) (tested queue same q.ops more many true f g h i)
+    → within_limits queue (seen s q) ≡ None
+ends_beyond queue same more s q many f g h i = limits_passed queue (seen s q) (tested queue same q.ops more many true f g h i)
+
+-- the removal of an order behind the group that it closes
+pub removal_pushed : {E : Type 0} (queue : List Op) (k : Taker) (id : OrderId) (s t : State) (p q : Taking) (ops : List Op) (r : Result (Unit {0}) E)
+    → seen s q ≡ closed_for queue k (seen s p) → ops ≡ cond (is_ok r) (q.ops ++ Remove id ∷ []) q.ops
+    → OnOk r (record { state = t; group = group_of q.group; ops = ops; gone = q.gone; filled = q.filled; fills = q.fills; offsets = q.offsets; stop = q.stop }
+    ≡ record (closed_for queue k (seen s p)) { state = t; ops = (closed_for queue k (seen s p)).ops ++ Remove id ∷ [] })
+removal_pushed queue k id s t p q ops (Ok u) e f =
+    ap (λ l. record { state = t; group = group_of q.group; ops = l; gone = q.gone; filled = q.filled; fills = q.fills; offsets = q.offsets; stop = q.stop }) f
+    ∙ ap (λ (x : Taken). record x { state = t; ops = x.ops ++ Remove id ∷ [] }) e
+removal_pushed queue k id s t p q ops (Err x) e f = tt

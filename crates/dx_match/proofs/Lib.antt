@@ -6,3 +6,10 @@ pub mod Amounts
 pub mod Standing
 pub mod Notes
 pub mod Groups
+pub mod Refusals
+pub mod Indices
+pub mod Lessening
+pub mod Risks
+pub mod Closings
+pub mod Offsets
+pub mod Markets

@@ -1,14 +1,15 @@
 -- What is noted of a fill that was tried.
-use Rattle.std.proofs.Common.{◌≡◌, ◌≢◌, ℕ, ◌+◌, true, false, cond, min, List, [], ◌∷◌, ◌++◌, Result, Ok, Err, IsTrue, refl, sym, ap, subst, ◌∙◌, is_ok}
+use Rattle.std.proofs.Common.{◌≡◌, ◌≢◌, ℕ, ◌+◌, ◌≤◌, true, false, cond, min, List, [], ◌∷◌, ◌++◌, Result, Ok, Err, refl, sym, ap, subst, ◌∙◌, is_ok, arith}
 use Rattle.std.proofs.lemmas.Bool.{ne_eqb}
 use Rattle.std.proofs.lemmas.List.{map-append}
 use Rattle.dx_types.specs.declared.Order.{Order}
 use Rattle.dx_types.specs.declared.Op.{Op}
 use Rattle.dx_spec.specs.Codes.{maker_risk}
-use Rattle.dx_spec.specs.State.{State, is_short_term, is_same_account}
+use Rattle.dx_types.specs.declared.OrderId.{OrderId}
+use Rattle.dx_spec.specs.State.{State, is_same_account, filled_of}
 use Rattle.dx_spec.specs.Fills.{fill_step}
 use Rattle.dx_node_spec.specs.Book.{left}
-use Rattle.dx_node_spec.specs.Taking.{Taken, Filled as FilledMaker, leaves, with_fill, refused_maker}
+use Rattle.dx_node_spec.specs.Taking.{Taken, Filled as FilledMaker, leaves, with_fill, closed_match, refused_maker}
 use Rattle.dx_ledger.specs.declared.faults.OpFault.{OpFault}
 use Rattle.dx_ledger.specs.declared.faults.OpFault.TheVariants.{Code}
 use Rattle.dx_accounts.specs.Faults.{IsFaultOf}
@@ -28,30 +29,30 @@ pub noted_gone : (maker : Order) (amount : ℕ) (s t : State) (before : Taking) 
     → last ≡ with_fill maker amount s (seen t before)
 unfolding with_fill
 noted_gone maker amount s t before group last h z e =
-    let noted : List FilledMaker → Taken = λ g. record { state = s; group = g; ops = before.ops; gone = before.gone; filled = before.filled + amount; fills = before.fills + 1; offsets = 0; stop = before.stop } in
+    let noted : List FilledMaker → Taken = λ g. record { state = s; group = g; ops = before.ops; gone = before.gone; filled = before.filled + amount; fills = before.fills + 1; offsets = before.offsets; stop = before.stop } in
     let more : group_of group ≡ group_of before.group ++ record { maker = maker; amount = amount } ∷ [] = ap group_of h ∙ map-append _ before.group _ in
     e ∙ ap (λ g. leaves maker.id (noted g)) more ∙ rw z refl
 
 -- a refused fill whose maker does not bear it
-tried_risk : (queue : List Op) (o maker : Order) (amount : ℕ) (t : Taken) → is_short_term maker.id ≡ true → tried queue o maker amount t (Err maker_risk) ≡ leaves maker.id t
-unfolding tried refused_maker
-tried_risk queue o maker amount t e = rw e refl
+tried_risk : (queue : List Op) (o maker : Order) (amount : ℕ) (t : Taken) → tried queue o maker amount t (Err maker_risk) ≡ refused_maker (closed_match queue o) maker t
+unfolding tried
+tried_risk queue o maker amount t = refl
 
 tried_other : (queue : List Op) (o maker : Order) (amount code : ℕ) (t : Taken) → code ≢ maker_risk → tried queue o maker amount t (Err code) ≡ record t { stop = code }
 unfolding tried
 tried_other queue o maker amount code t e = rw (ne_eqb code maker_risk e) refl
 
-pub noted_risk : (queue : List Op) (o maker : Order) (amount fill code : ℕ) (t last : Taken) (f : OpFault) (step : Result State ℕ) → IsTrue (is_short_term maker.id)
-    → f ≡ Code fill code → code ≡ maker_risk → IsFaultOf step f → last ≡ leaves maker.id t → last ≡ tried queue o maker amount t step
-noted_risk queue o maker amount fill code t last f step short is same h e =
-    let i : IsFaultOf step (Code fill code) = subst (IsFaultOf step) is h in
-    e ∙ sym (ap (tried queue o maker amount t) (i.1 ∙ ap Err same) ∙ tried_risk queue o maker amount t short)
+pub noted_risk : (queue : List Op) (o maker : Order) (amount code : ℕ) (t last : Taken) → code ≡ maker_risk → last ≡ refused_maker (closed_match queue o) maker t
+    → last ≡ tried queue o maker amount t (Err code)
+noted_risk queue o maker amount code t last same e = e ∙ sym (ap (λ n. tried queue o maker amount t (Err n)) same ∙ tried_risk queue o maker amount t)
 
-pub noted_stop : (queue : List Op) (o maker : Order) (amount fill code : ℕ) (t : Taken) (f : OpFault) (step : Result State ℕ)
-    → f ≡ Code fill code → code ≢ maker_risk → IsFaultOf step f → record t { stop = code } ≡ tried queue o maker amount t step
-noted_stop queue o maker amount fill code t f step is other h =
-    let i : IsFaultOf step (Code fill code) = subst (IsFaultOf step) is h in
-    sym (ap (tried queue o maker amount t) i.1 ∙ tried_other queue o maker amount code t other)
+pub noted_stop : (queue : List Op) (o maker : Order) (amount code : ℕ) (t : Taken) → code ≢ maker_risk → record t { stop = code } ≡ tried queue o maker amount t (Err code)
+noted_stop queue o maker amount code t other = sym (tried_other queue o maker amount code t other)
+
+-- a fault of a code is the definition's
+pub coded : {A B : Type 0} (f : Result A ℕ → B) (step : Result A ℕ) (fault : OpFault) (fill code : ℕ) (last : B) → fault ≡ Code fill code → IsFaultOf step fault
+    → last ≡ f (Err code) → last ≡ f step
+coded f step fault fill code last is h e = let i : IsFaultOf step (Code fill code) = subst (IsFaultOf step) is h in e ∙ ap f (sym i.1)
 
 -- a good fill
 pub tried_good : (queue : List Op) (o maker : Order) (amount : ℕ) (s : State) (t last : Taken) (step : Result State ℕ) → step ≡ Ok s
@@ -72,3 +73,13 @@ unfolding take_maker
 takes_filled queue o maker amount a b t last e f i j h =
     let same : amount ≡ min (left t.state o) (left t.state maker) = f ∙ ap (λ n. min n b) i ∙ ap (min (left t.state o)) j in
     h ∙ ap (λ n. tried queue o maker n t (fill_step t.state o maker n)) same ∙ rw e refl
+
+-- a refused fill leaves the state as it was
+pub tried_from : (queue : List Op) (o maker : Order) (amount : ℕ) (s t : State) (p : Taking) (last : Taken) (step : Result State ℕ) → t ≡ s
+    → last ≡ tried queue o maker amount (seen t p) step → last ≡ tried queue o maker amount (seen s p) step
+tried_from queue o maker amount s t p last step e h = h ∙ ap (λ (u : State). tried queue o maker amount (seen u p) step) e
+
+pub filled_stays : (s t u : State) (id : OrderId) (before after : ℕ) → t ≡ s → filled_of u id ≡ filled_of t id → after ≡ before → before ≤ filled_of s id → after ≤ filled_of u id
+filled_stays s t u id before after e f h w =
+    let same : filled_of u id ≡ filled_of s id = f ∙ ap (λ (x : State). filled_of x id) e in
+    omega (arith, same, h, w)

@@ -7,15 +7,19 @@ use Rattle.dx_types.specs.declared.OrderId.{OrderId}
 use Rattle.dx_types.specs.declared.Order.{Order}
 use Rattle.dx_spec.specs.Lists.{sorted_by}
 use Rattle.dx_spec.specs.Orders.{is_same_id, crosses}
-use Rattle.dx_node_spec.specs.Book.{is_on_side, side_of, best, makers_of, without, resting, HasOnePerId}
+use Rattle.dx_node_spec.specs.Book.{is_on_side, side_of, best, makers_of, without, HasOnePerId}
 use Rattle.dx_book.specs.Picks.{before}
 use Rattle.dx_book.specs.Ways.{next_of}
 use Rattle.dx_book.specs.Held.{Held, named, order_at}
 use Rattle.dx_book.specs.declared.key.OrderKey.{OrderKey}
+use Rattle.dx_spec.specs.State.{State}
+use Rattle.dx_trade.specs.Conditions.{IsTradable}
+use Rattle.dx_match.specs.Conditions.{IsBookFor}
 use Rattle.dx_match.specs.Stages.{opposite, takable}
 use Rattle.dx_match.proofs.Each.{none_pass, filter_swap}
 use Rattle.dx_match.proofs.Sorted.{sorted_in_order, none_behind, filter_sorted}
-use Rattle.dx_spec.proofs.Each.{all_weaker, all_filter, all_fail}
+use Rattle.dx_match.proofs.Standing.{side_tradable, side_unique}
+use Rattle.dx_spec.proofs.Each.{all_weaker, all_filter}
 use Rattle.dx_book.proofs.Sides.{before_order, side_same}
 use Rattle.dx_book.proofs.Walks.{from_place, none_behind as nothing_behind, side_done as walked_through, next_at as next_on_side}
 
@@ -41,10 +45,6 @@ best_is book o = refl
 pub side_done : (book : List Order) (o : Order) (k : ℕ) → length book ≤ k → takable o (drop k (opposite book o)) ≡ []
 unfolding takable opposite
 side_done book o k h = ap (λ l. filter (crosses o) (without l o.id)) (walked_through book o.id.market (not o.buy) k h)
-
--- at most one order per id
-pub all_other : (id : OrderId) (xs : List Order) → resting xs id ≡ None → AllByRecursion (λ o. is_same_id o.id id ≡ false) xs
-all_other id xs e = all_fail (λ o. is_same_id o.id id) xs e
 
 -- the key behind that of a maker
 pub next_at : (b : Held) (o m : Order) (k : ℕ) (key : OrderKey) (r : Option OrderKey) → HasOnePerId b.orders → slice_get (opposite b.orders o) k ≡ Some m → named b key ≡ Some m
@@ -81,3 +81,12 @@ none_crosses book o m k e f =
 pub none_left : (book : List Order) (o : Order) (k : ℕ) → None ≡ slice_get (opposite book o) k → takable o (drop k (opposite book o)) ≡ []
 unfolding takable
 none_left book o k e = ap (λ l. filter (crosses o) (without l o.id)) (nothing_behind (opposite book o) k e)
+
+-- each of the side may be traded, and no two have one id
+pub opposite_tradable : (s : State) (book : List Order) (o : Order) → IsBookFor s book → AllByRecursion (IsTradable s) (opposite book o)
+unfolding opposite
+opposite_tradable s book o h = side_tradable s book o.id.market (not o.buy) h
+
+pub opposite_unique : {s : State} (book : List Order) (o : Order) → IsBookFor s book → HasOnePerId (opposite book o)
+unfolding opposite
+opposite_unique book o h = side_unique book o.id.market (not o.buy) h.one_per_id

@@ -1,3 +1,5 @@
 pub mod Seen
 pub mod Conditions
+pub mod Takers
 pub mod Stages
+pub mod Sweeps

@@ -19,7 +19,7 @@ seen s p = record {
   gone = p.gone;
   filled = p.filled;
   fills = p.fills;
-  offsets = 0;
+  offsets = p.offsets;
   stop = p.stop;
 }
 

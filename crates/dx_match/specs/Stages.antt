@@ -1,14 +1,12 @@
 -- The stages of a taking.
-use Rattle.std.specs.Prelude.{ℕ, min, Bool, not, ◌||◌, ◌==◌, if◌then◌else◌, List, [], ◌∷◌, ◌++◌, Result, filter}
+use Rattle.std.specs.Prelude.{ℕ, min, Bool, not, ◌||◌, ◌==◌, if◌then◌else◌, List, Result, filter}
 use Rattle.dx_types.specs.declared.Order.{Order}
 use Rattle.dx_types.specs.declared.Op.{Op}
-use Rattle.dx_types.specs.declared.Op.TheVariants.{Match}
 use Rattle.dx_spec.specs.State.{State, is_same_account}
 use Rattle.dx_spec.specs.Orders.{crosses}
 use Rattle.dx_spec.specs.Fills.{fill_step}
 use Rattle.dx_node_spec.specs.Book.{left, without, side_of}
-use Rattle.dx_node_spec.specs.Queue.{placed_by, places}
-use Rattle.dx_node_spec.specs.Taking.{Taken, Filled as FilledMaker, leaves, fills_of, makers_in, closed_match, after_try}
+use Rattle.dx_node_spec.specs.Taking.{Taken, leaves, closed_match, after_try}
 
 -- the order takes no more: it is stopped, or has nothing left
 abbrev pub is_over : State → Order → ℕ → Bool
@@ -33,8 +31,3 @@ opposite book o = side_of book o.id.market (not o.buy)
 -- of these the makers that the order crosses; its own id stands aside
 unfoldable pub takable : Order → List Order → List Order
 takable o orders = filter (crosses o) (without orders o.id)
-
--- operations with those of a group of fills behind them
-unfoldable pub with_group : List Op → Order → List Op → List FilledMaker → List Op
-with_group queue o ops group =
-    ops ++ places (placed_by (queue ++ ops)) (makers_in group ++ o ∷ []) ++ Match o.id (fills_of group) ∷ []

@@ -1,23 +1,26 @@
 //! One maker.
 
-ghost use Rattle.std.specs.Prelude.{◌≡◌, ℕ, ◌+◌, ◌^◌, ◌<◌, ◌≤◌, false, [], ◌∷◌, not, ◌||◌, ◌==◌, List as Items, Result as Answer, IsTrue, OnOk, fold};
-ghost use Rattle.dx_types.specs.declared.Op.{Op as AnyOp};
-ghost use Rattle.dx_types.specs.declared.Order.{Order as AnyOrder};
-ghost use Rattle.dx_spec.specs.State.{State as AnyState, filled_of as filled_in, is_short_term};
+ghost use Rattle.std.specs.Prelude.{◌≡◌, ℕ, ◌+◌, ◌^◌, ◌<◌, ◌≤◌, false, [], ◌∷◌, Result as Answer, Err as Refused, OnOk, fold};
+ghost use Rattle.dx_spec.specs.State.{State as AnyState, filled_of as filled_in};
 ghost use Rattle.dx_spec.specs.Fills.{fill_step};
+ghost use Rattle.dx_spec.specs.Orders.{is_same_id as is_one_id};
 ghost use Rattle.dx_node_spec.specs.Book.{left as left_in, without};
-ghost use Rattle.dx_node_spec.specs.Taking.{leaves, with_fill, take_one};
+ghost use Rattle.dx_node_spec.specs.Taking.{with_fill, take_one};
 ghost use Rattle.dx_ledger.specs.Marks.{KeepsMarks};
 ghost use Rattle.dx_accounts.specs.Faults.{IsFaultOf};
+ghost use Rattle.dx_accounts.specs.Steady.{IsSteady};
+ghost use Rattle.dx_trade.specs.Conditions.{IsTradable};
 ghost use Rattle.dx_match.specs.Seen.{seen};
 ghost use Rattle.dx_fill.specs.Conditions.{CanFillBoth};
-ghost use Rattle.dx_match.specs.Conditions.{KeepsSteady};
+ghost use Rattle.dx_match.specs.Conditions.{KeepsOthers};
 ghost use Rattle.dx_match.specs.Stages.{is_over as over, tried, take_maker as taken_from};
 
-use crate::taken::{Filled, Taking};
+use crate::removing::{leave, refuse_maker};
+use crate::taken::{Filled, Taker, Taking};
 use dx_fill::fill;
 use dx_ledger::{Branch, Ledger, OpFault};
 use dx_orders::{is_same_account, is_same_id};
+use dx_queue::Queue;
 use dx_trade::{Refusal, filled_of};
 use dx_types::{NoMemory, Order};
 
@@ -35,18 +38,9 @@ pub(crate) fn is_over<L: Ledger>(ledger: &L, order: &Order, stop: u32) -> bool
     stop != 0 || left(ledger, order) == 0
 }
 
-/// A maker leaves the book.
-fn leave(taking: &mut Taking, maker: &Order) -> Result<(), NoMemory>
-    ensures ok { (s : AnyState) → OnOk result (seen s taking.new ≡ leaves maker.now.id (seen s taking.old)) }
-    ensures filled { taking.new.filled ≡ taking.old.filled }
-    ensures fills { taking.new.fills ≡ taking.old.fills }
-{
-    taking.gone.push(maker.id)
-}
-
 /// Notes a fill that was made.
 #[tactic(auto, unfolding(dx_node_spec::specs::Taking::with_fill))]
-fn note_fill<L: Ledger>(
+pub(crate) fn note_fill<L: Ledger>(
     ledger: &L,
     taking: &mut Taking,
     maker: &Order,
@@ -58,6 +52,7 @@ fn note_fill<L: Ledger>(
         ≡ with_fill maker.now amount (L.content ledger.now) (seen s taking.old)) }
     ensures filled { OnOk result (taking.new.filled ≡ taking.old.filled + amount) }
     ensures fills { OnOk result (taking.new.fills ≡ taking.old.fills + 1) }
+    ensures offsets { OnOk result (taking.new.offsets ≡ taking.old.offsets) }
 {
     taking.group.push(Filled {
         maker: *maker,
@@ -71,44 +66,79 @@ fn note_fill<L: Ledger>(
     Ok(())
 }
 
-/// What a refused fill leads to: a short-term maker whose account does not bear it leaves the book, and any
+/// What a code leads to that refuses a fill: a maker whose account does not bear it leaves the book, and any
 /// other code stops the order.
-fn note_refusal(taking: &mut Taking, maker: &Order, fault: OpFault) -> Result<(), NoMemory>
-    requires { IsTrue (is_short_term maker.now.id) }
-    ensures ok { (queue : Items AnyOp) (s : AnyState) (o : AnyOrder) (amount : ℕ) (step : Answer AnyState ℕ)
-        → IsFaultOf step fault → OnOk result (seen s taking.new ≡ tried queue o maker.now amount (seen s taking.old) step) }
+fn note_code<L: Branch>(
+    ledger: &mut L,
+    queue: &Queue,
+    order: &Order,
+    maker: &Order,
+    taking: &mut Taking,
+    code: u32,
+) -> Result<(), NoMemory>
+    requires { IsSteady (L.content ledger.old) }
+    ensures ok { (amount : ℕ) → OnOk result (seen (L.content ledger.new) taking.new
+        ≡ tried queue.now order.now maker.now amount (seen (L.content ledger.old) taking.old) (Refused code)) }
+    ensures kept { OnOk result (KeepsOthers maker.now.id (L.content ledger.old) (L.content ledger.new)) }
+    ensures record { is_one_id order.now.id maker.now.id ≡ false
+        → OnOk result (filled_in (L.content ledger.new) order.now.id ≡ filled_in (L.content ledger.old) order.now.id) }
     ensures filled { OnOk result (taking.new.filled ≡ taking.old.filled) }
     ensures fills { OnOk result (taking.new.fills ≡ taking.old.fills) }
+    ensures marks { KeepsMarks L.stands L.marked ledger.old ledger.new }
+    ensures beside { L.beside ledger.new ≡ L.beside ledger.old }
+{
+    if code == Refusal::MakerRisk.number() {
+        return refuse_maker(ledger, queue, &Taker::Placed(*order), maker, taking);
+    }
+    taking.stop = code;
+    Ok(())
+}
+
+/// What a refused fill leads to.
+fn note_refusal<L: Branch>(
+    ledger: &mut L,
+    queue: &Queue,
+    order: &Order,
+    maker: &Order,
+    taking: &mut Taking,
+    fault: OpFault,
+) -> Result<(), NoMemory>
+    requires { IsSteady (L.content ledger.old) }
+    ensures ok { (amount : ℕ) (step : Answer AnyState ℕ) → IsFaultOf step fault
+        → OnOk result (seen (L.content ledger.new) taking.new
+        ≡ tried queue.now order.now maker.now amount (seen (L.content ledger.old) taking.old) step) }
+    ensures kept { OnOk result (KeepsOthers maker.now.id (L.content ledger.old) (L.content ledger.new)) }
+    ensures record { is_one_id order.now.id maker.now.id ≡ false
+        → OnOk result (filled_in (L.content ledger.new) order.now.id ≡ filled_in (L.content ledger.old) order.now.id) }
+    ensures filled { OnOk result (taking.new.filled ≡ taking.old.filled) }
+    ensures fills { OnOk result (taking.new.fills ≡ taking.old.fills) }
+    ensures marks { KeepsMarks L.stands L.marked ledger.old ledger.new }
+    ensures beside { L.beside ledger.new ≡ L.beside ledger.old }
 {
     match fault {
         OpFault::NoMemory => Err(NoMemory),
-        OpFault::Code { code, .. } => {
-            if code == Refusal::MakerRisk.number() {
-                return leave(taking, maker);
-            }
-            taking.stop = code;
-            Ok(())
-        }
+        OpFault::Code { code, .. } => note_code(ledger, queue, order, maker, taking, code),
     }
 }
 
 /// Fills the order against a maker by an amount of base quantums, and notes what that leads to.
 fn try_maker<L: Branch>(
     ledger: &mut L,
+    queue: &Queue,
     order: &Order,
     maker: &Order,
     amount: u64,
     taking: &mut Taking,
 ) -> Result<(), NoMemory>
     requires fillable { CanFillBoth (L.content ledger.old) order.now maker.now }
-    requires short_term { IsTrue (is_short_term maker.now.id) }
+    requires other { is_one_id maker.now.id order.now.id ≡ false }
     requires within { taking.old.filled ≤ filled_in (L.content ledger.old) order.now.id }
     requires room { taking.old.filled + amount < 2 ^ 64 }
     requires fills { taking.old.fills + 1 < 2 ^ 32 }
-    ensures ok { (queue : Items AnyOp) → OnOk result (seen (L.content ledger.new) taking.new
-        ≡ tried queue order.now maker.now amount (seen (L.content ledger.old) taking.old)
+    ensures ok { OnOk result (seen (L.content ledger.new) taking.new
+        ≡ tried queue.now order.now maker.now amount (seen (L.content ledger.old) taking.old)
         (fill_step (L.content ledger.old) order.now maker.now amount)) }
-    ensures kept { OnOk result (KeepsSteady (L.content ledger.old) (L.content ledger.new)) }
+    ensures kept { OnOk result (KeepsOthers maker.now.id (L.content ledger.old) (L.content ledger.new)) }
     ensures within { OnOk result (taking.new.filled ≤ filled_in (L.content ledger.new) order.now.id) }
     ensures fills { OnOk result (taking.new.fills ≤ taking.old.fills + 1) }
     ensures marks { KeepsMarks L.stands L.marked ledger.old ledger.new }
@@ -116,7 +146,7 @@ fn try_maker<L: Branch>(
 {
     match fill(ledger, order, maker, amount) {
         Ok(()) => note_fill(ledger, taking, maker, amount),
-        Err(fault) => note_refusal(taking, maker, fault),
+        Err(fault) => note_refusal(ledger, queue, order, maker, taking, fault),
     }
 }
 
@@ -124,17 +154,18 @@ fn try_maker<L: Branch>(
 /// what is left of both.
 fn take_maker<L: Branch>(
     ledger: &mut L,
+    queue: &Queue,
     order: &Order,
     maker: &Order,
     taking: &mut Taking,
 ) -> Result<(), NoMemory>
     requires fillable { CanFillBoth (L.content ledger.old) order.now maker.now }
-    requires short_term { IsTrue (is_short_term maker.now.id) }
+    requires other { is_one_id maker.now.id order.now.id ≡ false }
     requires within { taking.old.filled ≤ filled_in (L.content ledger.old) order.now.id }
     requires fills { taking.old.fills + 1 < 2 ^ 32 }
-    ensures ok { (queue : Items AnyOp) → OnOk result (seen (L.content ledger.new) taking.new
-        ≡ taken_from queue order.now (seen (L.content ledger.old) taking.old) maker.now) }
-    ensures kept { OnOk result (KeepsSteady (L.content ledger.old) (L.content ledger.new)) }
+    ensures ok { OnOk result (seen (L.content ledger.new) taking.new
+        ≡ taken_from queue.now order.now (seen (L.content ledger.old) taking.old) maker.now) }
+    ensures kept { OnOk result (KeepsOthers maker.now.id (L.content ledger.old) (L.content ledger.new)) }
     ensures within { OnOk result (taking.new.filled ≤ filled_in (L.content ledger.new) order.now.id) }
     ensures fills { OnOk result (taking.new.fills ≤ taking.old.fills + 1) }
     ensures marks { KeepsMarks L.stands L.marked ledger.old ledger.new }
@@ -144,25 +175,26 @@ fn take_maker<L: Branch>(
         return leave(taking, maker);
     }
     let amount = left(ledger, order).min(left(ledger, maker));
-    try_maker(ledger, order, maker, amount, taking)
+    try_maker(ledger, queue, order, maker, amount, taking)
 }
 
 /// Takes a maker that the order crosses, unless it has the order's own id.
 pub(crate) fn take<L: Branch>(
     ledger: &mut L,
+    queue: &Queue,
     order: &Order,
     maker: &Order,
     taking: &mut Taking,
 ) -> Result<(), NoMemory>
     requires fillable { CanFillBoth (L.content ledger.old) order.now maker.now }
-    requires short_term { IsTrue (is_short_term maker.now.id) }
     requires goes_on { over (L.content ledger.old) order.now taking.old.stop ≡ false }
     requires within { taking.old.filled ≤ filled_in (L.content ledger.old) order.now.id }
     requires fills { taking.old.fills + 1 < 2 ^ 32 }
-    ensures ok { (queue : Items AnyOp) → OnOk result (seen (L.content ledger.new) taking.new
-        ≡ fold (take_one queue order.now) (seen (L.content ledger.old) taking.old)
+    ensures ok { OnOk result (seen (L.content ledger.new) taking.new
+        ≡ fold (take_one queue.now order.now) (seen (L.content ledger.old) taking.old)
         (without (maker.now ∷ []) order.now.id)) }
-    ensures kept { OnOk result (KeepsSteady (L.content ledger.old) (L.content ledger.new)) }
+    ensures kept { OnOk result (KeepsOthers maker.now.id (L.content ledger.old) (L.content ledger.new)) }
+    ensures own { OnOk result (IsTradable (L.content ledger.new) order.now) }
     ensures within { OnOk result (taking.new.filled ≤ filled_in (L.content ledger.new) order.now.id) }
     ensures fills { OnOk result (taking.new.fills ≤ taking.old.fills + 1) }
     ensures marks { KeepsMarks L.stands L.marked ledger.old ledger.new }
@@ -171,5 +203,5 @@ pub(crate) fn take<L: Branch>(
     if is_same_id(maker.id, order.id) {
         return Ok(());
     }
-    take_maker(ledger, order, maker, taking)
+    take_maker(ledger, queue, order, maker, taking)
 }

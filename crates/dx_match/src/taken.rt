@@ -1,9 +1,9 @@
-ghost use Rattle.std.specs.Prelude.{◌≡◌};
+ghost use Rattle.std.specs.Prelude.{◌≡◌, []};
 ghost use Rattle.dx_spec.specs.State.{State};
 ghost use Rattle.dx_node_spec.specs.Taking.{nothing_taken};
 ghost use Rattle.dx_match.specs.Seen.{seen};
 
-use dx_types::{List, Op, Order, OrderId};
+use dx_types::{List, Op, Order, OrderId, SubaccountId};
 use std::alloc::Global;
 
 /// What was taken of a book.
@@ -21,6 +21,20 @@ pub struct Taken {
     pub offsets: u32,
     /// The code that stopped it ("Codes of a block" in docs/RULES.md), or 0.
     pub stop: u32,
+}
+
+/// Whose fills a group has.
+#[derive(Clone, Copy, Debug)]
+pub(crate) enum Taker {
+    /// An order, whose fills are a match.
+    Placed(Order),
+    /// An account, whose fills are its liquidation in a market.
+    Liquidated {
+        /// The account.
+        who: SubaccountId,
+        /// The market.
+        market: u32,
+    },
 }
 
 /// A maker, and the amount that was filled of it.
@@ -45,13 +59,16 @@ pub(crate) struct Taking {
     pub(crate) filled: u64,
     /// How many fills there were.
     pub(crate) fills: u32,
+    /// How many offsets there were.
+    pub(crate) offsets: u32,
     /// The code that stopped it, or 0.
     pub(crate) stop: u32,
 }
 
 /// Before the first maker. It takes no memory.
 pub(crate) fn start(alloc: Global) -> Taking
-    ensures { (s : State) → seen s result ≡ nothing_taken s }
+    ensures nothing { (s : State) → seen s result ≡ nothing_taken s }
+    ensures group { result.group ≡ [] }
 {
     Taking {
         ops: List::new(alloc),
@@ -59,6 +76,7 @@ pub(crate) fn start(alloc: Global) -> Taking
         gone: List::new(alloc),
         filled: 0,
         fills: 0,
+        offsets: 0,
         stop: 0,
     }
 }

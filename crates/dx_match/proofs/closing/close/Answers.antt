@@ -1,15 +1,11 @@
-use Rattle.std.proofs.Common.{◌∙◌}
-use Rattle.dx_match.proofs.Groups.{ends_within, ends_beyond}
+use Rattle.std.proofs.Common.{ap, sym, ◌∙◌}
+use Rattle.dx_node_spec.specs.Taking.{within_limits}
+use Rattle.dx_match.proofs.Turns.{if_ok}
 use Rattle.dx_match.proofs.closing.close.Goals as goal
-
-pub returns-then-has_too_many-clause-full : goal.returns-then-has_too_many-clause-full
-returns-then-has_too_many-clause-full c =
-    λ s e.
-    ends_beyond c.args.queue.now c.as_slice.result.now c.as_slice-2.result.now c.args.order.now s c.args.taking c.close_group.new.taking c.has_too_many.result (c.in_ok-close_group.ensures.ok s)
-    c.has_too_many.ensures c.if-has_too_many.true (c.as_slice.ensures ∙ c.ops.ensures.list) c.as_slice-2.ensures
 
 pub returns-clause-ok : goal.returns-clause-ok
 returns-clause-ok c =
-    λ s.
-    ends_within c.args.queue.now c.as_slice.result.now c.as_slice-2.result.now c.args.order.now s c.args.taking c.close_group.new.taking c.has_too_many.result (c.in_ok-close_group.ensures.ok s) c.in_ok-close_group.ensures.closed
-    c.has_too_many.ensures c.if-has_too_many.false (c.as_slice.ensures ∙ c.ops.ensures.list) c.as_slice-2.ensures
+    λ s. if_ok _ _ c.end.result (λ t e. ap (within_limits c.args.queue.now) (sym (c.in_ok-close_group.ensures.ok s)) ∙ e) (c.end.ensures.ok s)
+
+pub returns-clause-full : goal.returns-clause-full
+returns-clause-full c = λ s e. ap (within_limits c.args.queue.now) (sym (c.in_ok-close_group.ensures.ok s)) ∙ c.end.ensures.full s e

@@ -8,11 +8,11 @@ returns-clause-ok g c =
     let s = g.L.Ledger.content c.args.ledger.now in
     let t = g.L.Ledger.content c.take_all.new.ledger in
     if_ok _ _ c.close.result
-    (λ r e. order_taken s c.args.book.now.orders c.args.queue.now c.args.order.now (seen t c.in_ok-taking.taking) (c.in_ok-taking.ensures.ok c.args.queue.now) ∙ e)
+    (λ r e. order_taken s c.args.book.now.orders c.args.queue.now c.args.order.now (seen t c.in_ok-taking.taking) c.in_ok-taking.ensures.ok ∙ e)
     (c.close.ensures.ok t)
 
 pub returns-clause-full : goal.returns-clause-full
 returns-clause-full g c =
     let s = g.L.Ledger.content c.args.ledger.now in
     let t = g.L.Ledger.content c.take_all.new.ledger in
-    λ e. order_taken s c.args.book.now.orders c.args.queue.now c.args.order.now (seen t c.in_ok-taking.taking) (c.in_ok-taking.ensures.ok c.args.queue.now) ∙ c.close.ensures.full t e
+    λ e. order_taken s c.args.book.now.orders c.args.queue.now c.args.order.now (seen t c.in_ok-taking.taking) c.in_ok-taking.ensures.ok ∙ c.close.ensures.full t e
