@@ -1,9 +1,14 @@
-pub mod Emptied
+pub mod Lists
 pub mod Plain
 pub mod Feeding
 pub mod Crossing
 pub mod Rooms
-pub mod Placing
+pub mod Tradable
+pub mod Parts
+pub mod Steps
+pub mod Kept
+pub mod Expiring
+pub mod Pooled
 pub mod Ending
 pub mod Voting
 pub mod Stays

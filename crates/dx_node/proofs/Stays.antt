@@ -1,12 +1,19 @@
 -- What is matched and what is cancelled leaves the state after the blocks.
-use Rattle.std.proofs.Common.{◌≡◌, ℕ, not, List, [], ◌∷◌, Ok, refl, sym, ap, subst, ◌∙◌}
+use Rattle.std.proofs.Common.{◌≡◌, ℕ, true, false, cond, not, ◌&&◌, ◌==◌, List, [], ◌∷◌, ◌++◌, Ok, refl, sym, ap, subst, ◌∙◌}
 use Rattle.std.specs.Prelude.{Bool, nat_lt, length}
-use Rattle.std.specs.List.{fold}
+use Rattle.std.specs.List.{fold, list_any}
+use Rattle.std.specs.Cmp.{IsEquivalence, eq_by_cmp_equiv}
 use Rattle.std.specs.FinMap.{insert, len}
+use Rattle.std.proofs.lemmas.Bool.{and_from, or_parts, eq-eqb}
+use Rattle.dx_types.specs.Keys.{subaccount_total}
 use Rattle.dx_types.specs.declared.SubaccountId.{SubaccountId}
 use Rattle.dx_types.specs.declared.OrderId.{OrderId}
 use Rattle.dx_types.specs.declared.Order.{Order}
 use Rattle.dx_types.specs.declared.Op.{Op}
+use Rattle.dx_types.specs.declared.Msg.{Msg}
+use Rattle.dx_types.specs.declared.Msg.TheVariants.{Deposit, Withdraw, Transfer, PlaceStateful, CancelStateful}
+use Rattle.dx_types.specs.declared.Block.{Block}
+use Rattle.dx_spec.specs.State.{State, is_same_account}
 use Rattle.dx_spec.specs.Bounds.{is_price}
 use Rattle.dx_spec.proofs.Steps.{ok_same, refuse_then}
 use Rattle.dx_spec.proofs.Scripts.{unit_passes, some_passes, stage_passes}
@@ -16,7 +23,13 @@ use Rattle.dx_node_spec.specs.Taking.{Taken, take_order}
 use Rattle.dx_node_spec.specs.Node.{Node, next_height, committed, speculative}
 use Rattle.dx_node_spec.specs.Placing.{Outcome, refusal, goes_to, with_rest, with_taken, settle_order, taken_on, check_place, place}
 use Rattle.dx_node_spec.specs.Events.{most_cancels, with_cancel, ends_by, check_cancel, cancel, orders_of, cancel_all, fed}
-use Rattle.dx_node.specs.Laws.{CommittedStays, SameBeside, CancellingStays}
+use Rattle.dx_node_spec.specs.Proposals.{may_propose, proposal_at, proposal, propose}
+use Rattle.dx_node_spec.specs.Commits.{is_same_message, without_message, adopted}
+use Rattle.dx_node_spec.proofs.Ids.{own_id}
+use Rattle.dx_speculation.proofs.Orders.{own_order}
+use Rattle.dx_speculation.proofs.Outcomes.{pooled_is, committed_is}
+use Rattle.dx_speculation.proofs.Replayable.{committing_makes_replayable}
+use Rattle.dx_node.specs.Laws.{CommittedStays, SameBeside, CancellingStays, PoolingStays, ProposalHasPool, CommittedLeavePool, ListedRestNot}
 
 other_parts : (p : Node) (queue : List Op) (os : List Order) → committed (record p { queue = queue; book = os }) ≡ committed p
 unfolding committed
@@ -82,3 +95,49 @@ all_cancelled_stays p who q e =
 
 pub cancelling_stays : CancellingStays
 cancelling_stays = (cancelled_stays, all_cancelled_stays)
+
+-- a message leaves them and the book
+message_beside : (p : Node) (m : Msg) → SameBeside p (record p { pool = p.pool ++ m ∷ [] }) × (p.book ≡ p.book)
+unfolding committed speculative
+message_beside p m = (record { committed = refl; speculative = refl; queue = refl; feed = refl }, refl)
+
+pub pooling_stays : PoolingStays
+pooling_stays p q m e = subst (λ (r : Node). SameBeside p r × (r.book ≡ p.book)) (pooled_is p q m e).1 (message_beside p m)
+
+-- a proposal has all messages that wait
+pub proposal_has_pool : ProposalHasPool
+unfolding propose proposal proposal_at
+proposal_has_pool p time b e =
+    let a = unit_passes (may_propose (committed p).clock time) (Ok (proposal p time)) b e in
+    ap (λ (x : Block). x.msgs) (sym (ok_same (proposal p time) b a.1))
+
+-- what leaves the pool at a commit
+adopted_pool : (p : Node) (b : Block) (s : State) (results : List ℕ) → (adopted p b s results).pool ≡ fold without_message p.pool b.msgs
+unfolding adopted
+adopted_pool p b s results = refl
+
+own_account : (a : SubaccountId) → is_same_account a a ≡ true
+own_account a = let l : IsEquivalence is_same_account = eq_by_cmp_equiv subaccount_total in l.refl a
+
+own_message : (m : Msg) → is_same_message m m ≡ true
+own_message (Deposit a n) = and_from (is_same_account a a) (n == n) (own_account a) (eq-eqb n n refl)
+own_message (Withdraw a n) = and_from (is_same_account a a) (n == n) (own_account a) (eq-eqb n n refl)
+own_message (Transfer a b n) = and_from (is_same_account a a && is_same_account b b) (n == n) (and_from (is_same_account a a) (is_same_account b b) (own_account a) (own_account b)) (eq-eqb n n refl)
+own_message (PlaceStateful o) = own_order o
+own_message (CancelStateful id) = own_id id
+
+one_leaves : (before behind : List Msg) (m : Msg) → list_any (λ x. is_same_message x m) before ≡ false → is_same_message m m ≡ true → without_message (before ++ m ∷ behind) m ≡ before ++ behind
+one_leaves [] behind m e s = ap (λ b. cond b behind (m ∷ without_message behind m)) s
+one_leaves (x ∷ xs) behind m e s =
+    let a = or_parts (is_same_message x m) (list_any (λ y. is_same_message y m) xs) e in
+    ap (λ b. cond b (xs ++ m ∷ behind) (x ∷ without_message (xs ++ m ∷ behind) m)) a.0 ∙ ap (λ ms. x ∷ ms) (one_leaves xs behind m a.1 s)
+
+pub committed_leave_pool : CommittedLeavePool
+committed_leave_pool = (
+  λ p b q e. let a = committed_is p b q e in ap (λ (r : Node). r.pool) (sym a.2) ∙ adopted_pool p b a.0.0 a.0.1,
+  λ before behind m e. one_leaves before behind m e (own_message m),
+)
+
+-- no listed order rests
+pub listed_rest_not : ListedRestNot
+listed_rest_not p b q h e = (committing_makes_replayable p b q h e).apart

@@ -14,6 +14,10 @@ use Rattle.dx_node.specs.declared.faults.FeedFault.{FeedFault}
 use Rattle.dx_node.specs.declared.faults.FeedFault.TheVariants as feeds
 use Rattle.dx_node.specs.declared.faults.ProposeFault.{ProposeFault}
 use Rattle.dx_node.specs.declared.faults.ProposeFault.TheVariants as proposals
+use Rattle.dx_node.specs.declared.faults.MessageFault.{MessageFault}
+use Rattle.dx_node.specs.declared.faults.MessageFault.TheVariants as messages
+use Rattle.dx_node.specs.declared.faults.SweepFault.{SweepFault}
+use Rattle.dx_node.specs.declared.faults.SweepFault.TheVariants as sweeps
 
 -- a cause by its number alone
 abbrev pub cause : ℕ → Told
@@ -54,6 +58,16 @@ propose_cause proposals.WrongTime = Some (cause node.wrong_time)
 propose_cause proposals.LastHeight = Some (cause node.last_height)
 propose_cause proposals.NoMemory = None
 
+-- why a message is not kept; no refusal where there was no memory
+abbrev pub message_cause : MessageFault → Option Told
+message_cause messages.PoolFull = Some (cause node.pool_full)
+message_cause messages.NoMemory = None
+
+-- why an account is not swept; the same
+abbrev pub sweep_cause : SweepFault → Option Told
+sweep_cause sweeps.QueueFull = Some (cause node.queue_full)
+sweep_cause sweeps.NoMemory = None
+
 -- a form that is not good refuses the order
 abbrev pub place_fault : OrderFault → PlaceFault
 place_fault orders.BadOrder = places.BadOrder
@@ -81,3 +95,11 @@ FeedRefused step fault = IsRefused step (Some (feed_cause fault))
 -- no block is proposed for the fault
 abbrev pub ProposeRefused : {A : Type 0} → Result A Refusal → ProposeFault → Type 0
 ProposeRefused step fault = IsRefused step (propose_cause fault)
+
+-- a message is not kept for the fault
+abbrev pub MessageRefused : {A : Type 0} → Result A Refusal → MessageFault → Type 0
+MessageRefused step fault = IsRefused step (message_cause fault)
+
+-- an account is not swept for the fault
+abbrev pub SweepRefused : {A : Type 0} → Result A Refusal → SweepFault → Type 0
+SweepRefused step fault = IsRefused step (sweep_cause fault)

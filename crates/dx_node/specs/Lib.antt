@@ -1,8 +1,10 @@
 pub mod Fed
 pub mod Held
-pub mod Stage
 pub mod Standing
 pub mod Trades
+pub mod Sweeps
+pub mod Ready
+pub mod Pool
 pub mod Short
 pub mod Faults
 pub mod Laws

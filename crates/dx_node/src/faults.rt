@@ -1,7 +1,7 @@
 //! Why a call of a node is refused.
 
 ghost use Rattle.std.specs.Prelude.{◌≡◌};
-ghost use Rattle.dx_node.specs.Faults.{place_cause, cancel_cause, feed_cause, propose_cause};
+ghost use Rattle.dx_node.specs.Faults.{place_cause, cancel_cause, feed_cause, propose_cause, message_cause, sweep_cause};
 
 use crate::refusal::{Refusal, cause, cause_until};
 use dx_orders::OrderFault;
@@ -193,5 +193,71 @@ impl From<NoMemory> for ProposeFault {
 
     fn from(_refused: NoMemory) -> ProposeFault {
         ProposeFault::NoMemory
+    }
+}
+
+/// Why a message does not wait for a proposal ("What a node keeps" in docs/RULES.md).
+#[derive(Clone, Copy, Debug, PartialEq, Eq, Error)]
+pub enum MessageFault {
+    /// 256 messages wait.
+    #[error("no more messages may wait")]
+    PoolFull,
+    /// There was no memory.
+    #[error("out of memory")]
+    NoMemory,
+}
+
+impl MessageFault {
+    /// The refusal of the message ("What a node keeps" in docs/RULES.md); none for `NoMemory`.
+    pub fn refusal(&self) -> Option<Refusal>
+        ensures { result ≡ message_cause self.now }
+    {
+        match self {
+            MessageFault::PoolFull => Some(cause(1)),
+            MessageFault::NoMemory => None,
+        }
+    }
+}
+
+impl From<NoMemory> for MessageFault {
+    ghost use Rattle.dx_node.specs.declared.faults.MessageFault.TheVariants.{NoMemory as MemoryFault};
+
+    ghost from_gives = { λ _ fault. fault ≡ MemoryFault };
+
+    fn from(_refused: NoMemory) -> MessageFault {
+        MessageFault::NoMemory
+    }
+}
+
+/// Why an account is not swept ("Sweep" in docs/RULES.md).
+#[derive(Clone, Copy, Debug, PartialEq, Eq, Error)]
+pub enum SweepFault {
+    /// The queue would pass its limits: 1,024 operations, or 4,096 fills and offsets together.
+    #[error("the queue is full")]
+    QueueFull,
+    /// There was no memory.
+    #[error("out of memory")]
+    NoMemory,
+}
+
+impl SweepFault {
+    /// The refusal of the sweep ("Sweep" in docs/RULES.md); none for `NoMemory`.
+    pub fn refusal(&self) -> Option<Refusal>
+        ensures { result ≡ sweep_cause self.now }
+    {
+        match self {
+            SweepFault::QueueFull => Some(cause(9)),
+            SweepFault::NoMemory => None,
+        }
+    }
+}
+
+impl From<NoMemory> for SweepFault {
+    ghost use Rattle.dx_node.specs.declared.faults.SweepFault.TheVariants.{NoMemory as MemoryFault};
+
+    ghost from_gives = { λ _ fault. fault ≡ MemoryFault };
+
+    fn from(_refused: NoMemory) -> SweepFault {
+        SweepFault::NoMemory
     }
 }

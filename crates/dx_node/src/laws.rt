@@ -1,7 +1,6 @@
 //! The laws on what a node does.
 
-ghost use Rattle.dx_node.specs.Laws.{CommittedStays, CancellingStays};
-ghost use Rattle.dx_node.specs.Stage.{EmptiedIsFaithful};
+ghost use Rattle.dx_node.specs.Laws.{CommittedStays, CancellingStays, PoolingStays, ProposalHasPool, CommittedLeavePool, ListedRestNot};
 
 /// Whatever a node places and is fed, the state after its blocks stays as it was: only a commit adds a block.
 pub fn committed_stays()
@@ -14,7 +13,22 @@ pub fn cancelling_stays()
     ensures { CancellingStays }
 {}
 
-/// A faithful node stays so where a good block is committed, and queue and book are emptied.
-pub fn emptied_is_faithful()
-    ensures { EmptiedIsFaithful }
+/// A message that is kept leaves both states, the queue, the book and the fed prices as they were.
+pub fn pooling_stays()
+    ensures { PoolingStays }
+{}
+
+/// A proposal has all messages that wait, in order.
+pub fn proposal_has_pool()
+    ensures { ProposalHasPool }
+{}
+
+/// For each message of a committed block the first equal one leaves the pool, and no other one.
+pub fn committed_leave_pool()
+    ensures { CommittedLeavePool }
+{}
+
+/// After a commit no order rests whose id is on the list to place again, until it is placed.
+pub fn listed_rest_not()
+    ensures { ListedRestNot }
 {}

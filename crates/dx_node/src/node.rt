@@ -1,47 +1,51 @@
 //! A node, and its calls.
 
-ghost use Rattle.std.specs.Prelude.{◌≡◌, ◌+◌, [], Ok, OnOk, IfOk, IfErr, OnErr, IsOk};
+ghost use Rattle.std.specs.Prelude.{◌≡◌, ◌+◌, true, false, [], length, Ok, OnOk, IfOk, IfErr, OnErr, IsOk};
 ghost use Rattle.dx_spec.specs.Blocks.{block_step};
 ghost use Rattle.dx_spec.specs.Genesis.{IsGenesis};
 ghost use Rattle.dx_spec.specs.Audits.{audit as audit_of};
 ghost use Rattle.dx_operations.specs.Faults.{Refuses};
 ghost use Rattle.dx_node_spec.specs.Node.{Node as PlainNode, new_node, committed as committed_of};
 ghost use Rattle.dx_node_spec.specs.Placing.{place as placed_with};
-ghost use Rattle.dx_node_spec.specs.Events.{fed, cancel as cancelled_with, cancel_all as all_cancelled_with};
+ghost use Rattle.dx_node_spec.specs.Events.{fed, pooled, cancel as cancelled_with, cancel_all as all_cancelled_with, sweep as swept_with};
+ghost use Rattle.dx_node_spec.specs.Commits.{commit as committed_with, replay_next as replayed};
 ghost use Rattle.dx_node_spec.specs.Proposals.{proposal_at, propose as proposed};
 ghost use Rattle.dx_node_spec.specs.Reads as tells;
 ghost use Rattle.dx_speculation.specs.Faithful.{IsGoodBlock};
 ghost use Rattle.dx_node.specs.Short.{IsShort};
-ghost use Rattle.dx_node.specs.Stage.{commit as committed_with};
 ghost use Rattle.dx_node.specs.Trades.{outcome_of};
-ghost use Rattle.dx_node.specs.Standing.{StandsFor, LeadsTo, Gives};
-ghost use Rattle.dx_node.specs.Faults.{FeedRefused, PlaceRefused, ProposeRefused, CancelRefused};
+ghost use Rattle.dx_node.specs.Standing.{StandsFor, LeadsTo, Gives, GivesBoth, Becomes};
+ghost use Rattle.dx_node.specs.Faults.{FeedRefused, PlaceRefused, ProposeRefused, CancelRefused, MessageRefused, SweepRefused};
 
 use crate::cancelling::{
     MOST_CANCELS, check_cancel, count, end_all, end_order, orders_of, with_ends,
 };
 use crate::cancels::Cancels;
-use crate::checks::check_place;
 use crate::commits::{After, apply};
-use crate::faults::{CancelFault, FeedFault, PlaceFault, ProposeFault};
+use crate::faults::{CancelFault, FeedFault, MessageFault, PlaceFault, ProposeFault, SweepFault};
 use crate::feed::Feed;
 use crate::placed::Placed;
+use crate::placing::{place_again, place_at};
+use crate::pool::add;
 use crate::proposing::check_time;
 use crate::reads::{best_of, has_market};
-use crate::trades::{make_room, settle, take};
+use crate::sweeping::{Swept, sweep_at};
 use crate::votes::votes;
+use crate::waiting::Waiting;
 use dx_book::Book;
 use dx_ledger::Ledger;
 use dx_queue::Queue;
+use dx_replay::purge;
 use dx_rules::{BlockFault, check_block, genesis_is_settled, is_price};
 use dx_state::PlainState;
 use dx_trade::filled_of;
-use dx_types::{Account, Audit, Block, Genesis, List, NoMemory, Order, OrderId, SubaccountId};
+use dx_types::{Account, Audit, Block, Genesis, List, Msg, NoMemory, Order, OrderId, SubaccountId};
 use std::alloc::Global;
 use std::marker::Model;
 
-/// A node: the states after its blocks and after its queue, its queue, its book, its cancels and its fed prices.
-/// Contracts see all that a plain node has, and the plain nodes that have the same.
+/// A node: the states after its blocks and after its queue, its queue, its book, its cancels, the messages that wait,
+/// its fed prices, and the orders to place again. Contracts see all that a plain node has, and the plain nodes that
+/// have the same.
 #[derive(Drop)]
 pub struct Node {
     number: u32,
@@ -50,7 +54,9 @@ pub struct Node {
     queue: Queue,
     book: Book,
     cancels: Cancels,
+    pool: List<Msg>,
     feed: Feed,
+    again: Waiting,
 }
 
 impl Model for Node {
@@ -60,9 +66,10 @@ impl Model for Node {
 
     ghost coded = { coded_held };
 
-    ghost view = { λ n. held n.number n.committed n.speculative n.queue n.book.orders n.cancels n.feed };
+    ghost view = { λ n. held n.number n.committed n.speculative n.queue n.book.orders n.cancels n.pool n.feed n.again };
 
-    ghost invariant = { λ n. IsKept (held n.number n.committed n.speculative n.queue n.book.orders n.cancels n.feed) };
+    ghost invariant = { λ n. IsKept
+        (held n.number n.committed n.speculative n.queue n.book.orders n.cancels n.pool n.feed n.again) };
 }
 
 impl Node {
@@ -81,7 +88,9 @@ impl Node {
             queue: Queue::new(alloc),
             book: Book::new(alloc),
             cancels: Cancels::new(alloc),
+            pool: List::new(alloc),
             feed: Feed::new(),
+            again: Waiting::new(alloc),
         })
     }
 
@@ -149,11 +158,19 @@ impl Node {
         self.committed.audit()
     }
 
+    /// How many orders are to be placed again ("After a commit" in docs/RULES.md). It takes no memory.
+    pub fn pending(&self) -> usize
+        ensures { result ≡ length self.now.again }
+    {
+        self.again.len()
+    }
+
     /// Tells whether a block is good on the state after the blocks, whatever the queue and the book hold
     /// ("Block" in docs/RULES.md). The node is as before at each end.
     ///
     /// `Bad` with the block's first bad part; `NoMemory` where there is none.
     pub fn check(&mut self, block: &Block) -> Result<(), BlockFault>
+        requires idle { self.old.again ≡ [] }
         ensures ok { OnOk result ((p : PlainNode) → StandsFor self.old p
             → IsOk (block_step (committed_of p) block.now)) }
         ensures refused { IfErr result (λ fault. (p : PlainNode) → StandsFor self.old p
@@ -164,13 +181,16 @@ impl Node {
         check_block(alloc, &mut self.committed, block)
     }
 
-    /// Commits a block, and tells the results of its messages: the block becomes the node's last, queue and
-    /// book are emptied, and the fed prices stay ("Block" and "After a commit" in docs/RULES.md). Nothing is
-    /// placed again yet.
+    /// Commits a block, and tells the results of its messages: the block becomes the node's last. The orders that the
+    /// queue mentions, and those that the block's good messages placed, are listed to be placed again by
+    /// [`Node::replay_next`]; the queue is emptied, and what may not rest on leaves the book. Cancels that stand no
+    /// longer are dropped, for each message of the block the first equal one leaves the pool, and the fed prices stay
+    /// ("Block" and "After a commit" in docs/RULES.md).
     ///
     /// `Bad` with the block's first bad part, exactly as [`Node::check`] has it; `NoMemory` where there is none.
     /// The node is then as before.
     pub fn commit(&mut self, block: &Block) -> Result<List<u32>, BlockFault>
+        requires idle { self.old.again ≡ [] }
         ensures ok { IfOk result (λ results. (p : PlainNode) → StandsFor self.old p
             → Gives self.new results (committed_with p block.now)) }
         ensures refused { IfErr result (λ fault. (p : PlainNode) → StandsFor self.old p
@@ -182,12 +202,68 @@ impl Node {
             committed,
             speculative,
             results,
-        } = apply(alloc, &self.committed, block)?;
+            again,
+            pool,
+        } = apply(
+            alloc,
+            &self.committed,
+            &self.queue,
+            &self.book,
+            &self.pool,
+            block,
+        )?;
+        purge(&mut self.book, &again, &committed);
         self.committed = committed;
         self.speculative = speculative;
         self.queue.clear();
-        self.book = Book::new(alloc);
+        self.cancels.drop_ended(block.height);
+        self.pool = pool;
+        self.again = Waiting::of(again);
         Ok(results)
+    }
+
+    /// Places the first order of the list again, and tells whether there was one ("After a commit" in docs/RULES.md).
+    /// It leaves the list, also where it is refused; nothing else of the node is then changed.
+    ///
+    /// `NoMemory` where there is none: the node is then as before, and the order is still on the list.
+    pub fn replay_next(&mut self) -> Result<bool, NoMemory>
+        ensures ok { IfOk result (λ more. (p : PlainNode) → StandsFor self.old p
+            → Becomes self.new more (replayed p)) }
+        ensures fewer { IfOk result (λ more. more ≡ true → length self.new.again + 1 ≡ length self.old.again) }
+        ensures ended { IfOk result (λ more. more ≡ false → self.new.again ≡ []) }
+        ensures same { OnErr result (self.new ≡ self.old) }
+    {
+        let Some(o) = self.again.first() else {
+            return Ok(false);
+        };
+        let alloc = self.allocator();
+        let height = self.next_height();
+        place_again(
+            alloc,
+            &mut self.speculative,
+            height,
+            &mut self.queue,
+            &mut self.book,
+            &self.cancels,
+            &o,
+        )?;
+        self.again.drop_first();
+        Ok(true)
+    }
+
+    /// Keeps a message for proposals, behind those that wait ("Proposal" in docs/RULES.md). It stays until a block
+    /// with an equal one is committed.
+    ///
+    /// `PoolFull` exactly where 256 messages wait; `NoMemory` where there is none. The node is then as before.
+    pub fn message(&mut self, msg: &Msg) -> Result<(), MessageFault>
+        requires idle { self.old.again ≡ [] }
+        ensures ok { OnOk result ((p : PlainNode) → StandsFor self.old p → LeadsTo self.new (pooled p msg.now)) }
+        ensures refused { IfErr result (λ fault. (p : PlainNode) → StandsFor self.old p
+            → MessageRefused (pooled p msg.now) fault) }
+        ensures same { OnErr result (self.new ≡ self.old) }
+    {
+        add(&mut self.pool, msg)?;
+        Ok(())
     }
 
     /// Keeps a market's price for proposals, in the place of one that it has ("Fed prices" in docs/RULES.md). It
@@ -196,6 +272,7 @@ impl Node {
     /// `NoMarket` where there is no such market; `BadPrice` exactly where the price is not from 1 to 2^48 − 1.
     /// The node is then as before.
     pub fn feed(&mut self, market: u32, price: u64) -> Result<(), FeedFault>
+        requires idle { self.old.again ≡ [] }
         ensures ok { OnOk result ((p : PlainNode) → StandsFor self.old p → LeadsTo self.new (fed p market price)) }
         ensures refused { IfErr result (λ fault. (p : PlainNode) → StandsFor self.old p
             → FeedRefused (fed p market price) fault) }
@@ -211,12 +288,12 @@ impl Node {
         Ok(())
     }
 
-    /// The block of a time, whatever that is: the queue as operations, no messages, a vote on each market, and
-    /// the fed prices that the markets may have after the queue. `NoMemory` where there is none for it.
+    /// The block of a time, whatever that is: the queue as operations, the messages that wait, a vote on each market,
+    /// and the fed prices that the markets may have after the queue. `NoMemory` where there is none for it.
     #[tactic(auto, unfolding(dx_node_spec::specs::Proposals::proposal_at))]
     fn proposal(&self, time: u32) -> Result<Block, NoMemory>
         ensures is { IfOk result (λ block. block ≡ proposal_at (self.now.committed.clock.height + 1)
-            self.now.speculative self.now.queue self.now.book [] self.now.feed time) }
+            self.now.speculative self.now.queue self.now.book self.now.pool self.now.feed time) }
         ensures short { IfOk result IsShort }
     {
         let alloc = self.allocator();
@@ -224,20 +301,21 @@ impl Node {
             height: self.next_height(),
             time,
             ops: self.queue.ops().try_clone()?,
-            msgs: List::new(alloc),
+            msgs: self.pool.try_clone()?,
             votes: votes(alloc, &self.speculative, &self.book)?,
             prices: self.feed.allowed(alloc, &self.speculative)?,
         })
     }
 
-    /// The block that the node proposes at a time: its queue as operations, its vote on each market by number,
-    /// and by market each fed price that the market may have after the queue ("Proposal" and "Premium vote of a
-    /// node" in docs/RULES.md). It has no messages yet. It is good on the state after the node's blocks, and none
+    /// The block that the node proposes at a time: its queue as operations, the messages that wait, its vote on each
+    /// market by number, and by market each fed price that the market may have after the queue ("Proposal" and
+    /// "Premium vote of a node" in docs/RULES.md). It is good on the state after the node's blocks, and none
     /// of its lists passes its limit.
     ///
     /// `WrongTime` exactly where the time is not past the committed one, or past 4,000,000,000; `LastHeight`
     /// exactly at the height 4,000,000,000; `NoMemory` where there is none for the block.
     pub fn propose(&self, time: u32) -> Result<Block, ProposeFault>
+        requires idle { self.now.again ≡ [] }
         ensures ok { IfOk result (λ block. (p : PlainNode) → StandsFor self.now p → proposed p time ≡ Ok block) }
         ensures refused { IfErr result (λ fault. (p : PlainNode) → StandsFor self.now p
             → ProposeRefused (proposed p time) fault) }
@@ -267,6 +345,7 @@ impl Node {
     /// resting or the last placed order of its id is not older, `AlreadyFilled`, `Cancelled`, `PostOnlyCross`, and
     /// after the taking `QueueFull` or `BookFull`; `NoMemory` at any point. The node is then as before.
     pub fn place(&mut self, o: &Order) -> Result<Placed, PlaceFault>
+        requires idle { self.old.again ≡ [] }
         ensures ok { IfOk result (λ placed. (p : PlainNode) → StandsFor self.old p
             → Gives self.new (outcome_of placed) (placed_with p o.now)) }
         ensures refused { IfErr result (λ fault. (p : PlainNode) → StandsFor self.old p
@@ -275,18 +354,41 @@ impl Node {
     {
         let alloc = self.allocator();
         let height = self.next_height();
-        check_place(
-            &self.speculative,
+        let placed = place_at(
+            alloc,
+            &mut self.speculative,
             height,
-            &self.queue,
-            &self.book,
+            &mut self.queue,
+            &mut self.book,
             &self.cancels,
             o,
         )?;
-        make_room(&mut self.book)?;
-        let trade = take(alloc, &mut self.speculative, &self.book, &mut self.queue, o)?;
-        settle(&mut self.book, o, &trade);
-        Ok(trade.placed)
+        Ok(placed)
+    }
+
+    /// Sweeps an account: its positions are liquidated against the book while it has less than its maintenance
+    /// requirement, and then offset against other accounts while it has less than nothing. The queue gets what was
+    /// done, and the answer tells how many fills and offsets it was ("Sweep" in docs/RULES.md).
+    ///
+    /// `QueueFull` exactly where the queue would pass its limits; `NoMemory` where there is none. The node is then as
+    /// before.
+    pub fn sweep(&mut self, who: SubaccountId) -> Result<Swept, SweepFault>
+        requires idle { self.old.again ≡ [] }
+        ensures ok { IfOk result (λ done. (p : PlainNode) → StandsFor self.old p
+            → GivesBoth self.new done.fills done.offsets (swept_with p who)) }
+        ensures refused { IfErr result (λ fault. (p : PlainNode) → StandsFor self.old p
+            → SweepRefused (swept_with p who) fault) }
+        ensures same { OnErr result (self.new ≡ self.old) }
+    {
+        let alloc = self.allocator();
+        let swept = sweep_at(
+            alloc,
+            &mut self.speculative,
+            &mut self.queue,
+            &mut self.book,
+            who,
+        )?;
+        Ok(swept)
     }
 
     /// Cancels an order of an id: the cancel is kept, also where no such order rests, and no order of the id that
@@ -297,6 +399,7 @@ impl Node {
     /// 20 later, `NotNewer` exactly where a kept cancel of the id stands as long, `CancelsFull` exactly where none of
     /// the id is kept and 65,536 are; `NoMemory` at any point. The node is then as before.
     pub fn cancel(&mut self, id: &OrderId, until: u32) -> Result<bool, CancelFault>
+        requires idle { self.old.again ≡ [] }
         ensures ok { IfOk result (λ ended. (p : PlainNode) → StandsFor self.old p
             → Gives self.new ended (cancelled_with p id.now until)) }
         ensures refused { IfErr result (λ fault. (p : PlainNode) → StandsFor self.old p
@@ -315,6 +418,7 @@ impl Node {
     /// `CancelsFull` exactly where more than 65,536 cancels would be kept; `NoMemory` where there is none. The node
     /// is then as before.
     pub fn cancel_all(&mut self, who: SubaccountId) -> Result<u32, CancelFault>
+        requires idle { self.old.again ≡ [] }
         ensures ok { IfOk result (λ count. (p : PlainNode) → StandsFor self.old p
             → Gives self.new count (all_cancelled_with p who)) }
         ensures refused { IfErr result (λ fault. (p : PlainNode) → StandsFor self.old p

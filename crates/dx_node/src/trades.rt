@@ -12,7 +12,8 @@ ghost use Rattle.dx_match.specs.Seen.{ended};
 ghost use Rattle.dx_node_spec.specs.Book.{resting};
 ghost use Rattle.dx_node_spec.specs.Taking.{take_order};
 ghost use Rattle.dx_node_spec.specs.Placing.{not_gone, goes_to as goes, with_rest};
-ghost use Rattle.dx_node.specs.Trades.{beside as others, take_step, outcome_of};
+ghost use Rattle.dx_node.specs.Trades.{beside as others, take_step, outcome_of, parts, traded, take_on as taken_on};
+ghost use Rattle.dx_node.specs.Ready.{IsReady};
 ghost use Rattle.dx_node.specs.Faults.{PlaceRefused};
 
 use crate::faults::PlaceFault;
@@ -28,15 +29,15 @@ use std::alloc::Global;
 
 /// What was taken for an order, and what became of it.
 #[derive(Drop)]
-pub(crate) struct Trade {
+struct Trade {
     /// What was taken.
-    pub(crate) taken: Taken,
+    taken: Taken,
     /// What became of the order.
-    pub(crate) placed: Placed,
+    placed: Placed,
 }
 
 /// Makes room for one more order in a book in which no more rest than may.
-pub(crate) fn make_room(book: &mut Book) -> Result<(), NoMemory>
+fn make_room(book: &mut Book) -> Result<(), NoMemory>
     requires { length book.old.orders ≤ most_orders }
     ensures orders { book.new.orders ≡ book.old.orders }
     ensures room { OnOk result (1 ≤ book.new.spare) }
@@ -165,7 +166,7 @@ fn try_take<L: Branch>(
 
 /// Takes for an order what the book offers, and puts its operations into the queue. State and queue are as
 /// before at a refusal: behind a good taking the book may be full, and the queue may have no memory.
-pub(crate) fn take<L: Branch>(
+fn take<L: Branch>(
     alloc: Global,
     l: &mut L,
     book: &Book,
@@ -199,7 +200,7 @@ pub(crate) fn take<L: Branch>(
 }
 
 /// Takes orders out of the book, each where it is held. It takes no memory.
-fn take_out(book: &mut Book, gone: &[OrderId])
+pub(crate) fn take_out(book: &mut Book, gone: &[OrderId])
     ensures orders { book.new.orders ≡ not_gone gone.now book.old.orders }
     ensures spare { book.old.spare ≤ book.new.spare }
 {
@@ -210,7 +211,7 @@ fn take_out(book: &mut Book, gone: &[OrderId])
 
 /// The book after an order was placed: the order of its id and the makers that left are taken out, and what
 /// rests comes last. It takes no memory.
-pub(crate) fn settle(book: &mut Book, o: &Order, trade: &Trade)
+fn settle(book: &mut Book, o: &Order, trade: &Trade)
     requires { 1 ≤ book.old.spare }
     ensures { book.new.orders
         ≡ with_rest (others book.old.orders o.now.id trade.now.taken.gone) o.now (outcome_of trade.now.placed) }
@@ -221,4 +222,32 @@ pub(crate) fn settle(book: &mut Book, o: &Order, trade: &Trade)
         Placed::Rested { .. } => book.add(o),
         Placed::Filled | Placed::Dropped { .. } | Placed::Stopped { .. } => {}
     }
+}
+
+/// Takes an order on, whose tests are passed: it takes what the book offers, the queue gets what it took, and the rest
+/// of it goes where its kind says. The resting order of its id leaves. State, queue and book are as before at a
+/// refusal.
+#[tactic(auto, unfolding(crate::specs::Trades::take_on))]
+pub(crate) fn take_on<L: Branch>(
+    alloc: Global,
+    l: &mut L,
+    queue: &mut Queue,
+    book: &mut Book,
+    o: &Order,
+) -> Result<Placed, PlaceFault>
+    requires ready { IsReady (parts (L.content l.old) queue.old book.old.orders) }
+    requires order { IsTradable (L.content l.old) o.now }
+    ensures ok { IfOk result (λ placed. taken_on (parts (L.content l.old) queue.old book.old.orders) o.now
+        ≡ Ok (traded (parts (L.content l.new) queue.new book.new.orders) placed)) }
+    ensures steady { OnOk result (IsSteady (L.content l.new)) }
+    ensures refused { IfErr result (PlaceRefused
+        (taken_on (parts (L.content l.old) queue.old book.old.orders) o.now)) }
+    ensures err { OnErr result (L.content l.new ≡ L.content l.old) }
+    ensures same { OnErr result (queue.new ≡ queue.old) }
+    ensures kept { OnErr result (book.new.orders ≡ book.old.orders) }
+{
+    make_room(book)?;
+    let trade = take(alloc, l, book, queue, o)?;
+    settle(book, o, &trade);
+    Ok(trade.placed)
 }

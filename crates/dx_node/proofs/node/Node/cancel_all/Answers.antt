@@ -9,7 +9,7 @@ use Rattle.dx_node.proofs.node.Node.cancel_all.Goals as goal
 
 pub returns-then-len-gt-MOST_CANCELS-clause-refused : goal.returns-then-len-gt-MOST_CANCELS-clause-refused
 returns-then-len-gt-MOST_CANCELS-clause-refused c =
-    let g : Held = held c.self.inside.number c.self.inside.committed c.self.inside.speculative c.self.inside.queue c.self.inside.book.orders c.self.inside.cancels c.self.inside.feed in
+    let g : Held = held c.self.inside.number c.self.inside.committed c.self.inside.speculative c.self.inside.queue c.self.inside.book.orders c.self.inside.cancels c.self.inside.pool c.self.inside.feed c.self.inside.again in
     let made : c.in_ok-cancels.cancels ≡ with_ends c.self.inside.cancels c.in_ok-orders.orders = search rules in
     let over : nat_lt most_cancels (len c.in_ok-cancels.cancels) ≡ true = search rules in
     λ p st. all_cancelled_bad g c.args.self.now p c.args.who c.in_ok-orders.orders c.in_ok-cancels.cancels c.self.view_is c.in_ok-orders.ensures made over st
@@ -24,7 +24,7 @@ invariant_of-self c =
 
 pub returns-clause-ok : goal.returns-clause-ok
 returns-clause-ok c =
-    let g : Held = held c.self.inside.number c.self.inside.committed c.self.inside.speculative c.self.inside.queue c.self.inside.book.orders c.self.inside.cancels c.self.inside.feed in
+    let g : Held = held c.self.inside.number c.self.inside.committed c.self.inside.speculative c.self.inside.queue c.self.inside.book.orders c.self.inside.cancels c.self.inside.pool c.self.inside.feed c.self.inside.again in
     let made : c.in_ok-cancels.cancels ≡ with_ends c.self.inside.cancels c.in_ok-orders.orders = search rules in
     let room : nat_lt most_cancels (len c.in_ok-cancels.cancels) ≡ false = search rules in
     let ended : c.end_all.new.book.orders ≡ behind_all c.self.inside.book.orders c.in_ok-orders.orders = search rules in

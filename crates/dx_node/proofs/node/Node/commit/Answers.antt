@@ -1,8 +1,11 @@
-use Rattle.std.proofs.Common.{rules, refl, IfErr}
+use Rattle.std.proofs.Common.{rules, List, filter, refl, IfErr, sym, ap, ◌∙◌}
+use Rattle.dx_types.specs.declared.Order.{Order}
 use Rattle.dx_spec.specs.Blocks.{block_step}
 use Rattle.dx_operations.specs.Faults.{Refuses}
 use Rattle.dx_trade.proofs.Steps.{if_err}
-use Rattle.dx_node.proofs.Plain.{fresh_kept, committed_good, committed_bad}
+use Rattle.dx_node_spec.specs.Commits.{stays}
+use Rattle.dx_node.specs.Held.{Held, held}
+use Rattle.dx_node.proofs.Plain.{Adopts, kept_committed, committed_good, committed_bad}
 use Rattle.dx_node.proofs.node.Node.commit.Goals as goal
 
 pub returns-in_err-committed-clause-refused : goal.returns-in_err-committed-clause-refused
@@ -12,10 +15,34 @@ returns-in_err-committed-clause-refused c =
 
 pub invariant_of-self : goal.invariant_of-self
 invariant_of-self c =
-    fresh_kept _ c.in_ok-committed.field-0.committed c.in_ok-committed.field-0.speculative c.clear.new.self c.new.result.orders _ _
-    c.in_ok-committed.ensures.settled c.in_ok-committed.ensures.same c.clear.ensures c.new.ensures
+    let g : Held = held c.self.inside.number c.self.inside.committed c.self.inside.speculative c.self.inside.queue c.self.inside.book.orders c.self.inside.cancels c.self.inside.pool c.self.inside.feed c.self.inside.again in
+    let n : Held = held c.self.inside.number c.in_ok-committed.field-0.committed c.in_ok-committed.field-0.speculative c.clear.new.self c.purge.new.book.orders c.drop_ended.new.self c.in_ok-committed.field-0.pool c.self.inside.feed c.of.result in
+    let a : Adopts g n c.args.block.now c.in_ok-committed.field-0.results = record {
+      good = c.in_ok-committed.ensures.ok;
+      speculative = c.in_ok-committed.ensures.same;
+      number = refl;
+      queue = c.clear.ensures;
+      book = c.purge.ensures.orders ∙ ap (λ (os : List Order). filter (stays os c.in_ok-committed.field-0.committed) c.self.inside.book.orders) (sym c.of.ensures);
+      cancels = c.drop_ended.ensures;
+      pool = c.in_ok-committed.ensures.pool;
+      feed = refl;
+      again = λ p q b. c.of.ensures ∙ c.in_ok-committed.ensures.again p q b;
+    } in
+    kept_committed g n c.args.block.now c.in_ok-committed.field-0.results c.self.invariant a c.in_ok-committed.ensures.settled
 
 pub returns-clause-ok : goal.returns-clause-ok
-returns-clause-ok c = λ p st.
-    committed_good _ c.args.self.now _ p c.args.block.now c.in_ok-committed.field-0.results c.self.view_is c.self.invariant.settled c.in_ok-committed.ensures.ok
-    c.in_ok-committed.ensures.same refl c.clear.ensures c.new.ensures refl refl refl refl st
+returns-clause-ok c =
+    let g : Held = held c.self.inside.number c.self.inside.committed c.self.inside.speculative c.self.inside.queue c.self.inside.book.orders c.self.inside.cancels c.self.inside.pool c.self.inside.feed c.self.inside.again in
+    let n : Held = held c.self.inside.number c.in_ok-committed.field-0.committed c.in_ok-committed.field-0.speculative c.clear.new.self c.purge.new.book.orders c.drop_ended.new.self c.in_ok-committed.field-0.pool c.self.inside.feed c.of.result in
+    let a : Adopts g n c.args.block.now c.in_ok-committed.field-0.results = record {
+      good = c.in_ok-committed.ensures.ok;
+      speculative = c.in_ok-committed.ensures.same;
+      number = refl;
+      queue = c.clear.ensures;
+      book = c.purge.ensures.orders ∙ ap (λ (os : List Order). filter (stays os c.in_ok-committed.field-0.committed) c.self.inside.book.orders) (sym c.of.ensures);
+      cancels = c.drop_ended.ensures;
+      pool = c.in_ok-committed.ensures.pool;
+      feed = refl;
+      again = λ p q b. c.of.ensures ∙ c.in_ok-committed.ensures.again p q b;
+    } in
+    λ p st. committed_good g c.args.self.now n p c.args.block.now c.in_ok-committed.field-0.results c.self.view_is c.self.invariant.settled a st
