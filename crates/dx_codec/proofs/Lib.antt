@@ -1,0 +1,13 @@
+pub mod Formats
+pub mod NumberFormats
+pub mod BlockFormats
+pub mod Loops
+pub mod GenesisFormats
+pub mod RowFormats
+pub mod Collected
+pub mod SameState
+pub mod Keeping
+pub mod Decoding
+pub mod Shaping
+pub mod Fitting
+pub mod Deciding
