@@ -25,6 +25,3 @@ mod replay;
 
 pub use laws::events_are_served;
 pub use program::{replay_all, run};
-
-#[cfg(test)]
-mod tests;

@@ -4,7 +4,7 @@ ghost use Rattle.dx_io.specs.Causes.{Rose};
 ghost use Rattle.dx_types.specs.declared.status.Status.TheVariants as ends;
 ghost use Rattle.dx_print.specs.Statuses.{last_line};
 ghost use Rattle.dx_app.specs.Output.{AppendsFront};
-ghost use Rattle.dx_cluster.specs.World.{World, Stands};
+ghost use Rattle.dx_cluster.specs.World.{World, Stands, StandsForSome};
 ghost use Rattle.dx_app.specs.Transcript.{Told, line_limit, ended, bad_line, line_told, rest_told};
 ghost use Rattle.dx_app.specs.Counts.{Later, Caused, CausedByWrites};
 ghost use Rattle.dx_app.specs.Prompt.{IsNear, ReadsTo, StopsInLine, AnswersWholeLines, AnswersAllBehind};
@@ -83,6 +83,7 @@ fn answer_line<W: Sink>(
     line: &[u8],
     sink: &mut W,
 ) -> Result<(), Status>
+    requires { StandsForSome cluster.old }
     ensures answered { OnOk result ((w : World) → Stands cluster.old w
         → IsAnswered w number line.now cluster.new (W.written sink.old) (W.written sink.new)) }
     ensures ended { IfErr result (λ s. (w : World) → Stands cluster.old w
@@ -113,7 +114,8 @@ fn next_reply<S: Source, W: Sink>(
     line: &mut Vec<u8>,
     sink: &mut W,
 ) -> Result<(), Status>
-    requires { number ≤ line_limit }
+    requires stands { StandsForSome cluster.old }
+    requires number { number ≤ line_limit }
     ensures goes_on { OnOk result ((w : World) → Stands cluster.old w
         → GoesOn (rest_told w number) reader.old reader.new (S.left source.old) (S.left source.new)
         (W.written sink.old) (W.written sink.new) cluster.new (number + 1)) }
@@ -178,7 +180,7 @@ fn end_of_lines<S: Source, W: Sink>(
     Status::Done
 }
 
-/// Answers the lines from the second on.
+/// Answers the lines from the second on, by a cluster that stands for some nodes and slots.
 pub fn replay_lines<S: Source, W: Sink>(
     alloc: Global,
     cluster: &mut Cluster,
@@ -186,6 +188,7 @@ pub fn replay_lines<S: Source, W: Sink>(
     source: &mut S,
     sink: &mut W,
 ) -> Status
+    requires { StandsForSome cluster.old }
     ensures said { (w : World) → Stands cluster.old w
         → IsRunOf (λ rest. rest_told w 2 (reader.old ++ rest)) (S.left source.old)
         (W.written sink.old) (W.written sink.new) result }

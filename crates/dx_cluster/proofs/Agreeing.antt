@@ -11,7 +11,7 @@ use Rattle.dx_spec.specs.State.{State, filled_of}
 use Rattle.dx_spec.specs.Blocks.{block_step}
 use Rattle.dx_spec.specs.Audits.{audit}
 use Rattle.dx_node_spec.specs.Node.{Node, committed}
-use Rattle.dx_node.specs.Stage.{emptied, commit}
+use Rattle.dx_node_spec.specs.Commits.{adopted, commit}
 use Rattle.dx_scenario.specs.declared.event.Event.{Event}
 use Rattle.dx_scenario.specs.declared.event.Event.TheVariants as events
 use Rattle.dx_scenario.specs.Events.{word_of}
@@ -59,7 +59,7 @@ abbrev said : Block → Result (State × List ℕ) Bad → Answer
 said b (Ok r) = answers.Good (b.height ∷ r.1)
 said b (Err bad) = answers.Bad bad
 
-said_by : (p : Node) (b : Block) (r : Result (State × List ℕ) Bad) → (commit_answer p b (r >>= λ x. Ok (emptied p b, x.1))).1 ≡ said b r
+said_by : (p : Node) (b : Block) (r : Result (State × List ℕ) Bad) → (commit_answer p b (r >>= λ x. Ok (adopted p b x.0 x.1, x.1))).1 ≡ said b r
 said_by p b (Ok x) = refl
 said_by p b (Err bad) = refl
 

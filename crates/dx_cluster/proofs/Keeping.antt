@@ -2,9 +2,6 @@
 use Rattle.std.proofs.Common.{◌≡◌, ◌<◌, ℕ, zero, suc, List, [], ◌∷◌, map, arith, refl, subst, sym, ap, ◌∙◌, Option, Some, None, Result, Ok, Err}
 use Rattle.std.specs.Prelude.{slice_get, slice_set, All}
 use Rattle.std.specs.FinMap.{get}
-use Rattle.std.proofs.lemmas.List.Elements.{All-head, All-tail, All-cons}
-use Rattle.std.proofs.lemmas.List.FromFn.{length-map-range_with_len, get_or-map-range_with_len}
-use Rattle.std.proofs.lemmas.Option.{slice_get_within, get_or_from_slice_get}
 use Rattle.dx_types.specs.declared.Block.{Block}
 use Rattle.dx_types.specs.declared.Order.{Order}
 use Rattle.dx_types.specs.declared.Genesis.{Genesis}
@@ -15,16 +12,17 @@ use Rattle.dx_laws.proofs.Auditing.{balance_shown}
 use Rattle.dx_sound.proofs.Both.{blocks_are_sound}
 use Rattle.dx_node_spec.specs.Node.{Node, new_node, committed}
 use Rattle.dx_node_spec.specs.Placing.{Refusal, place}
-use Rattle.dx_node_spec.specs.Events.{fed, cancel, cancel_all}
-use Rattle.dx_speculation.specs.NodeEvents.{NodeEvent, Placing, Cancelling, CancellingAll, Feeding, IsNoCommit, after as node_after}
+use Rattle.dx_node_spec.specs.Events.{fed, pooled, cancel, cancel_all, sweep}
+use Rattle.dx_speculation.specs.NodeEvents.{NodeEvent, Placing, Cancelling, CancellingAll, Pooling, Feeding, Sweeping, IsNoCommit, after as node_after}
 use Rattle.dx_node_spec.specs.Proposals.{propose}
 use Rattle.dx_scenario.specs.declared.event.Event.{Event}
 use Rattle.dx_scenario.specs.declared.event.Event.TheVariants as events
 use Rattle.dx_print.specs.declared.answer.Answer.{Answer}
-use Rattle.dx_cluster.specs.Acts.{place_order, cancel_order, cancel_orders, feed_price, check_slot, commit_slot, tell_balance, tell_speculative, tell_filled, tell_best, tell_audit}
+use Rattle.dx_cluster.specs.Acts.{place_order, cancel_order, cancel_orders, feed_price, pool_message, sweep_account, check_slot, commit_slot, tell_balance, tell_speculative, tell_filled, tell_best, tell_audit}
 use Rattle.dx_cluster.specs.World.{World, world_of, node_acts, put_proposal, node_proposes, step}
 use Rattle.dx_cluster.specs.Laws.{IsFold, FoldsStayGood, after_block, OnlyCommitsCount, after, IsInBalance, StatesBalance, NodesAreInOrder, PlacingsStopByRisk, ProposalsAreGood}
-use Rattle.dx_cluster.proofs.Living.{FoldsTo, folds_by, placed_node, cancelled_node, all_cancelled_node, fed_node, placing_folds, cancelling_folds, all_cancelling_folds, feeding_folds, committing_folds, new_folds, Lives, lives_by, committing_lives, new_lives, in_order, stops_by_risk, proposes_good}
+use Rattle.dx_cluster.proofs.Everywhere.{all_set, all_at, first_nodes}
+use Rattle.dx_cluster.proofs.Living.{FoldsTo, folds_by, placed_node, cancelled_node, all_cancelled_node, done_node, swept_node, placing_folds, cancelling_folds, all_cancelling_folds, feeding_folds, pooling_folds, sweeping_folds, committing_folds, new_folds, Lives, lives_by, committing_lives, new_lives, in_order, stops_by_risk, proposes_good}
 
 -- a proposal changes no node
 put_nodes : (w : World) (slot : ℕ) (r : Result Block Refusal) → (put_proposal w slot r).0.nodes ≡ w.nodes
@@ -36,23 +34,9 @@ propose_nodes w None slot time = refl
 propose_nodes w (Some p) slot time = put_nodes w slot (propose p time)
 
 module _ (P : Node → Type 0) where
-  all_set : (ps : List Node) (n : ℕ) (p : Node) → All P ps → P p → All P (slice_set ps n p)
-  all_set [] n p h g = h
-  all_set (q ∷ ps) zero p h g = All-cons P p ps g (All-tail P q ps h)
-  all_set (q ∷ ps) (suc n) p h g = All-cons P q (slice_set ps n p) (All-head P q ps h) (all_set ps n p (All-tail P q ps h) g)
-
-  all_at : (ps : List Node) (n : ℕ) (p : Node) → slice_get ps n ≡ Some p → All P ps → P p
-  all_at ps n p e h = subst P (get_or_from_slice_get ps n p p e) (h n p (slice_get_within ps n p e))
-
   acted_at : (w : World) (node : ℕ) (act : Node → Node × Answer) (o : Option Node) → slice_get w.nodes node ≡ o → All P w.nodes → ((p : Node) → P p → P (act p).0) → All P (node_acts w o node act).0.nodes
   acted_at w node act None e h a = h
-  acted_at w node act (Some p) e h a = all_set w.nodes node (act p).0 h (a p (all_at w.nodes node p e h))
-
-  -- what holds of a new node of each number holds of all nodes at first
-  first_nodes : (nodes : ℕ) (g : Genesis) → ((number : ℕ) → P (new_node number g)) → All P (world_of nodes g).nodes
-  first_nodes nodes g h =
-      let made : ℕ → Node = λ number. new_node number g in
-      λ n d lt. subst P (sym (get_or-map-range_with_len made 0 nodes n n d (subst (λ k. n < k) (length-map-range_with_len made 0 nodes) lt) (omega arith))) (h n)
+  acted_at w node act (Some p) e h a = all_set P w.nodes node (act p).0 h (a p (all_at P w.nodes node p e h))
 
   -- what everything that happens at a node keeps of it, every event keeps
   stepped : ((p : Node) (event : NodeEvent) → IsNoCommit event → P p → P (node_after p event)) → ((o : Option Block) (p : Node) → P p → P (commit_slot o p).0)
@@ -60,7 +44,9 @@ module _ (P : Node → Type 0) where
   stepped kept committed w (events.Place node order) h = acted_at w node (place_order order) (slice_get w.nodes node) refl h (λ p g. subst P (placed_node p (place p order)) (kept p (Placing order) tt g))
   stepped kept committed w (events.Cancel node id until) h = acted_at w node (cancel_order id until) (slice_get w.nodes node) refl h (λ p g. subst P (cancelled_node p (cancel p id until)) (kept p (Cancelling id until) tt g))
   stepped kept committed w (events.CancelAll node who) h = acted_at w node (cancel_orders who) (slice_get w.nodes node) refl h (λ p g. subst P (all_cancelled_node p (cancel_all p who)) (kept p (CancellingAll who) tt g))
-  stepped kept committed w (events.Feed node market price) h = acted_at w node (feed_price market price) (slice_get w.nodes node) refl h (λ p g. subst P (fed_node p (fed p market price)) (kept p (Feeding market price) tt g))
+  stepped kept committed w (events.Feed node market price) h = acted_at w node (feed_price market price) (slice_get w.nodes node) refl h (λ p g. subst P (done_node p (fed p market price)) (kept p (Feeding market price) tt g))
+  stepped kept committed w (events.Message node msg) h = acted_at w node (pool_message msg) (slice_get w.nodes node) refl h (λ p g. subst P (done_node p (pooled p msg)) (kept p (Pooling msg) tt g))
+  stepped kept committed w (events.Sweep node who) h = acted_at w node (sweep_account who) (slice_get w.nodes node) refl h (λ p g. subst P (swept_node p (sweep p who)) (kept p (Sweeping who) tt g))
   stepped kept committed w (events.Propose node slot time) h = subst (All P) (sym (propose_nodes w (slice_get w.nodes node) slot time)) h
   stepped kept committed w (events.Check node slot) h = acted_at w node (check_slot (get w.slots slot)) (slice_get w.nodes node) refl h (λ p g. g)
   stepped kept committed w (events.Commit node slot) h = acted_at w node (commit_slot (get w.slots slot)) (slice_get w.nodes node) refl h (committed (get w.slots slot))
@@ -121,6 +107,8 @@ only_commits_count w (events.Place node order) h = act_stays w node (place_order
 only_commits_count w (events.Cancel node id until) h = act_stays w node (cancel_order id until) (slice_get w.nodes node) refl h (cancelling_folds id until)
 only_commits_count w (events.CancelAll node who) h = act_stays w node (cancel_orders who) (slice_get w.nodes node) refl h (all_cancelling_folds who)
 only_commits_count w (events.Feed node market price) h = act_stays w node (feed_price market price) (slice_get w.nodes node) refl h (feeding_folds market price)
+only_commits_count w (events.Message node msg) h = act_stays w node (pool_message msg) (slice_get w.nodes node) refl h (pooling_folds msg)
+only_commits_count w (events.Sweep node who) h = act_stays w node (sweep_account who) (slice_get w.nodes node) refl h (sweeping_folds who)
 only_commits_count w (events.Propose node slot time) h = ap (map committed) (propose_nodes w (slice_get w.nodes node) slot time)
 only_commits_count w (events.Commit node slot) h = commit_changes w node (get w.slots slot) (slice_get w.nodes node) refl h
 only_commits_count w (events.Check node slot) h = tell_stays w node (check_slot (get w.slots slot)) h (λ p. refl)

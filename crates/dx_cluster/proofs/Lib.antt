@@ -1,6 +1,9 @@
 pub mod Counts
+pub mod Everywhere
 pub mod Worlds
 pub mod Living
 pub mod Keeping
 pub mod Agreeing
 pub mod Counting
+pub mod Idling
+pub mod Turns

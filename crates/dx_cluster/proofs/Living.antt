@@ -1,9 +1,10 @@
 -- What stays so of a node whatever happens at it.
-use Rattle.std.proofs.Common.{◌≡◌, ℕ, Bool, List, [], ◌∷◌, ◌++◌, Option, Some, None, Result, Ok, Err, refl, sym, ap, subst, ◌∙◌}
+use Rattle.std.proofs.Common.{◌≡◌, ℕ, zero, suc, Bool, List, [], ◌∷◌, ◌++◌, length, arith, Option, Some, None, Result, Ok, Err, refl, sym, ap, subst, ◌∙◌}
 use Rattle.std.specs.Result.{result_unwrap_or}
 use Rattle.dx_types.specs.declared.SubaccountId.{SubaccountId}
 use Rattle.dx_types.specs.declared.OrderId.{OrderId}
 use Rattle.dx_types.specs.declared.Order.{Order}
+use Rattle.dx_types.specs.declared.Msg.{Msg}
 use Rattle.dx_types.specs.declared.Block.{Block}
 use Rattle.dx_types.specs.declared.Bad.{Bad}
 use Rattle.dx_types.specs.declared.Genesis.{Genesis}
@@ -11,22 +12,22 @@ use Rattle.dx_spec.specs.Step.{◌>>=◌}
 use Rattle.dx_spec.specs.State.{State, genesis_state}
 use Rattle.dx_spec.specs.Genesis.{IsGenesis}
 use Rattle.dx_spec.specs.Blocks.{block_step, fold_blocks, fold_from}
-use Rattle.dx_spec.proofs.Steps.{ok_same}
-use Rattle.dx_spec.proofs.Scripts.{stage_passes}
 use Rattle.dx_node_spec.specs.Node.{Node, new_node, committed, speculative}
 use Rattle.dx_node_spec.specs.Placing.{Outcome, AllFilled, Rested, Dropped, Stopped, Refusal, place}
-use Rattle.dx_node_spec.specs.Events.{fed, cancel, cancel_all}
+use Rattle.dx_node_spec.specs.Events.{fed, pooled, cancel, cancel_all, sweep}
+use Rattle.dx_node_spec.specs.Commits.{adopted, commit, replay_next, placed_again, after_turns}
 use Rattle.dx_speculation.specs.Faithful.{IsFaithful}
-use Rattle.dx_speculation.specs.NodeEvents.{NodeEvent, Placing, Cancelling, CancellingAll, Feeding, IsNoCommit, node_of, itself_or, after as node_after}
+use Rattle.dx_speculation.specs.NodeEvents.{NodeEvent, Placing, Cancelling, CancellingAll, Pooling, Feeding, Sweeping, Replaying, IsNoCommit, node_of, itself_or, swept_or, after as node_after}
 use Rattle.dx_speculation.proofs.Nodes.{fold_more, new_node_is_faithful}
 use Rattle.dx_speculation.proofs.Events.{speculative_is_sound}
 use Rattle.dx_speculation.proofs.NodeEvents.{every_event_keeps_faithful}
 use Rattle.dx_speculation.proofs.Roots.{other_events_keep_blocks}
 use Rattle.dx_speculation.proofs.Stopping.{placing_stops_by_risk}
-use Rattle.dx_node.specs.Stage.{emptied, commit}
-use Rattle.dx_node.proofs.Emptied.{emptied_is_faithful}
+use Rattle.dx_speculation.proofs.Outcomes.{committed_is}
+use Rattle.dx_speculation.proofs.Committing.{committing_keeps_faithful}
+use Rattle.dx_speculation.proofs.Replaying.{replaying_places_again}
 use Rattle.dx_speculation.proofs.Proposals.{proposal_is_good}
-use Rattle.dx_cluster.specs.Acts.{outcome_answer, place_answer, place_order, cancel_answer, cancel_order, cancel_all_answer, cancel_orders, feed_answer, feed_price, commit_answer, commit_slot}
+use Rattle.dx_cluster.specs.Acts.{outcome_answer, place_answer, place_order, cancel_answer, cancel_order, cancel_all_answer, cancel_orders, done_answer, feed_price, pool_message, sweep_answer, sweep_account, commit_answer, commit_slot}
 use Rattle.dx_cluster.specs.Laws.{IsFold, state_or, after_block, IsInOrder, StopsByRisk, ProposesGood}
 
 -- the committed state of a node and its fold, where the committed state comes to be another
@@ -60,10 +61,15 @@ pub all_cancelled_node : (p : Node) (r : Result (Node × ℕ) Refusal) → node_
 all_cancelled_node p (Ok q) = refl
 all_cancelled_node p (Err cause) = refl
 
--- the node after a price
-pub fed_node : (p : Node) (r : Result Node Refusal) → itself_or p r ≡ (feed_answer p r).0
-fed_node p (Ok q) = refl
-fed_node p (Err cause) = refl
+-- the node after a price or a message
+pub done_node : (p : Node) (r : Result Node Refusal) → itself_or p r ≡ (done_answer p r).0
+done_node p (Ok q) = refl
+done_node p (Err cause) = refl
+
+-- the node after a sweep
+pub swept_node : (p : Node) (r : Result (Node × ℕ × ℕ) Refusal) → swept_or p r ≡ (sweep_answer p r).0
+swept_node p (Ok q) = refl
+swept_node p (Err cause) = refl
 
 pub placing_folds : (o : Order) (p : Node) → IsFold p → FoldsTo (place_order o p).0 (committed p)
 placing_folds o p h = subst (λ x. FoldsTo x (committed p)) (placed_node p (place p o)) (folds_by p (Placing o) tt h)
@@ -75,38 +81,50 @@ pub all_cancelling_folds : (who : SubaccountId) (p : Node) → IsFold p → Fold
 all_cancelling_folds who p h = subst (λ x. FoldsTo x (committed p)) (all_cancelled_node p (cancel_all p who)) (folds_by p (CancellingAll who) tt h)
 
 pub feeding_folds : (market price : ℕ) (p : Node) → IsFold p → FoldsTo (feed_price market price p).0 (committed p)
-feeding_folds market price p h = subst (λ x. FoldsTo x (committed p)) (fed_node p (fed p market price)) (folds_by p (Feeding market price) tt h)
+feeding_folds market price p h = subst (λ x. FoldsTo x (committed p)) (done_node p (fed p market price)) (folds_by p (Feeding market price) tt h)
+
+pub pooling_folds : (m : Msg) (p : Node) → IsFold p → FoldsTo (pool_message m p).0 (committed p)
+pooling_folds m p h = subst (λ x. FoldsTo x (committed p)) (done_node p (pooled p m)) (folds_by p (Pooling m) tt h)
+
+pub sweeping_folds : (who : SubaccountId) (p : Node) → IsFold p → FoldsTo (sweep_account who p).0 (committed p)
+sweeping_folds who p h = subst (λ x. FoldsTo x (committed p)) (swept_node p (sweep p who)) (folds_by p (Sweeping who) tt h)
+
+-- what each turn keeps, so many turns keep, and so does the placing of the whole list
+turns_keep : (P : Node → Type 0) → ((p : Node) → P p → P (replay_next p).0) → (turns : ℕ) (p : Node) → P p → P (after_turns turns p)
+turns_keep P k zero p h = h
+turns_keep P k (suc n) p h = turns_keep P k n (replay_next p).0 (k p h)
+
+pub list_keeps : (P : Node → Type 0) → ((p : Node) → P p → P (replay_next p).0) → (p : Node) → P p → P (placed_again p)
+list_keeps P k p h = subst P (replaying_places_again p (length p.again) (omega arith)) (turns_keep P k (length p.again) p h)
+
+-- one turn leaves the committed state
+turn_folds : (s : State) (p : Node) → FoldsTo p s → FoldsTo (replay_next p).0 s
+turn_folds s p h = let k = folds_by p Replaying tt h.0 in (k.0, k.1 ∙ h.1)
 
 -- a stage fails as the one before it
 stage_fails : {A B E : Type 0} (r : Result A E) (f : A → B) (code : E) → (r >>= λ x. Ok (f x)) ≡ Err code → r ≡ Err code
 stage_fails (Ok x) f code e = absurd (cc)
 stage_fails (Err c) f code e = let same : c ≡ code = cc in ap Err same
 
--- a good block is the last of the node
-commit_is : (p : Node) (b : Block) (q : Node × List ℕ) → commit p b ≡ Ok q → (r : State × List ℕ) × (block_step (committed p) b ≡ Ok r) × (q.0 ≡ emptied p b)
-unfolding commit
-commit_is p b q e =
-    let d = stage_passes (block_step (committed p) b) (λ r. Ok (emptied p b, r.1)) q e in
-    (d.0, d.1, ap (λ (x : Node × List ℕ). x.0) (sym (ok_same _ q d.2)))
-
--- and a bad one leaves it
+-- a bad block leaves the node
 commit_bad : (p : Node) (b : Block) (bad : Bad) → commit p b ≡ Err bad → block_step (committed p) b ≡ Err bad
 unfolding commit
-commit_bad p b bad e = stage_fails (block_step (committed p) b) (λ r. (emptied p b, r.1)) bad e
+commit_bad p b bad e = stage_fails (block_step (committed p) b) (λ r. (adopted p b r.0 r.1, r.1)) bad e
 
--- a good block leads to the next one
-with_block : (p : Node) (b : Block) (r : State × List ℕ) → IsFold p → block_step (committed p) b ≡ Ok r → IsFold (emptied p b) × (committed (emptied p b) ≡ r.0)
-unfolding committed
+-- a good block leads to the next state
+with_block : (p : Node) (b : Block) (r : State × List ℕ) → IsFold p → block_step (committed p) b ≡ Ok r → FoldsTo (adopted p b r.0 r.1) r.0
+unfolding committed adopted
 with_block p b r h e =
     let f = fold_more (genesis_state p.genesis) p.blocks (committed p) b r h.folded e in
-    let same : committed (emptied p b) ≡ r.0 = ap (λ s. result_unwrap_or (fold_from s (p.blocks ++ b ∷ [])) p.base) h.base ∙ ap (λ x. result_unwrap_or x p.base) f in
+    let same : committed (adopted p b r.0 r.1) ≡ r.0 = ap (λ s. result_unwrap_or (fold_from s (p.blocks ++ b ∷ [])) p.base) h.base ∙ ap (λ x. result_unwrap_or x p.base) f in
     (record { base = h.base; folded = f ∙ ap Ok (sym same) }, same)
 
 commit_folds : (p : Node) (b : Block) (r : Result (Node × List ℕ) Bad) → commit p b ≡ r → IsFold p → FoldsTo (commit_answer p b r).0 (after_block (Some b) (committed p))
 commit_folds p b (Ok q) e h =
-    let d = commit_is p b q e in
-    let k = with_block p b d.0 h d.1 in
-    subst (λ x. FoldsTo x (after_block (Some b) (committed p))) (sym d.2) (k.0, k.1 ∙ ap (state_or (committed p)) (sym d.1))
+    let d = committed_is p b q e in
+    let k : FoldsTo q.0 d.0.0 = subst (λ x. FoldsTo x d.0.0) d.2 (with_block p b d.0 h d.1) in
+    let l = list_keeps (λ x. FoldsTo x d.0.0) (turn_folds d.0.0) q.0 k in
+    (l.0, l.1 ∙ ap (state_or (committed p)) (sym d.1))
 commit_folds p b (Err bad) e h = (h, ap (state_or (committed p)) (sym (commit_bad p b bad e)))
 
 pub committing_folds : (o : Option Block) (p : Node) → IsFold p → FoldsTo (commit_slot o p).0 (after_block o (committed p))
@@ -133,15 +151,19 @@ lives_by p event other h =
       faithful = every_event_keeps_faithful p event h.faithful;
     }
 
+adopted_genesis : (p : Node) (b : Block) (r : State × List ℕ) → IsGenesis p.genesis → IsGenesis (adopted p b r.0 r.1).genesis
+unfolding adopted
+adopted_genesis p b r h = h
+
 commit_lives : (p : Node) (b : Block) (r : Result (Node × List ℕ) Bad) → commit p b ≡ r → Lives p → Lives (commit_answer p b r).0
 commit_lives p b (Ok q) e h =
-    let d = commit_is p b q e in
-    let k : Lives (emptied p b) = record {
-      fold = (with_block p b d.0 h.fold d.1).0;
-      genesis = h.genesis;
-      faithful = emptied_is_faithful p b d.0 h.faithful d.1;
+    let d = committed_is p b q e in
+    let k : Lives q.0 = record {
+      fold = (subst (λ x. FoldsTo x d.0.0) d.2 (with_block p b d.0 h.fold d.1)).0;
+      genesis = subst (λ (x : Node). IsGenesis x.genesis) d.2 (adopted_genesis p b d.0 h.genesis);
+      faithful = committing_keeps_faithful p b q h.faithful e;
     } in
-    subst Lives (sym d.2) k
+    list_keeps Lives (λ x l. lives_by x Replaying tt l) q.0 k
 commit_lives p b (Err bad) e h = h
 
 pub committing_lives : (o : Option Block) (p : Node) → Lives p → Lives (commit_slot o p).0

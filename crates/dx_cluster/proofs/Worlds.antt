@@ -1,6 +1,6 @@
 -- What the program holds, and the nodes and slots that it stands for.
 use Rattle.std.proofs.Common.{◌≡◌, ◌<◌, ◌≤◌, ◌+◌, ℕ, zero, suc, List, [], ◌∷◌, ◌++◌, map, length, take, refl, sym, ap, subst, ◌∙◌, arith, add-one, get_or, Option, Some, None, Result, Ok, Err, IfOk}
-use Rattle.std.specs.Prelude.{slice_get, slice_set, IsErr}
+use Rattle.std.specs.Prelude.{slice_get, slice_set, IsErr, All}
 use Rattle.std.specs.List.{AllZip, range_with_len}
 use Rattle.std.specs.FinMap.{get, insert}
 use Rattle.std.proofs.lemmas.Slice.Zip.{AllZip-long}
@@ -23,7 +23,8 @@ use Rattle.dx_cluster.specs.declared.cluster.Cluster.{Cluster}
 use Rattle.dx_cluster.specs.Stored.{Stored}
 use Rattle.dx_cluster.specs.Acts.{height_of, refused}
 use Rattle.dx_cluster.specs.Refusals.{AnswersCause, cause_answer}
-use Rattle.dx_cluster.specs.World.{World, node_acts, act_at, proposed, put_proposal, node_proposes, propose_at, replied, Stands, Acts, HasActed, IsDone}
+use Rattle.dx_cluster.specs.World.{World, node_acts, act_at, proposed, put_proposal, node_proposes, propose_at, replied, IsIdle, Stands, StandsForSome, Acts, HasActed, IsDone}
+use Rattle.dx_cluster.proofs.Everywhere.{all_set, all_at}
 
 -- there was no memory for an answer
 no_answer : (P : Answer → Type 0) (result : Result Answer OutOfMemory) → IsErr result → IfOk result P
@@ -66,24 +67,35 @@ same_set (y ∷ xs) (suc n) x e = ap (λ vs. y ∷ vs) (same_set xs n x e)
 pub node_count : (c : Cluster) (w : World) (n : ℕ) → Stands c w → n ≡ length c.nodes.items → length w.nodes ≡ n
 node_count c w n st e = AllZip-long StandsFor c.nodes.items w.nodes st.nodes ∙ sym e
 
+-- a node of the program has no order to place again
+pub idle_at : (c : Cluster) (n : ℕ) (h : Held) → StandsForSome c → n < length c.nodes.items → h ≡ get_or c.nodes.items n h → h.again ≡ []
+idle_at c n h s l e =
+    let p = found StandsFor c.nodes.items s.0.nodes n s.1.nodes l in
+    ap (λ (x : Held). x.again) (p.2 h e).parts ∙ all_at IsIdle s.0.nodes n p.0 p.1 s.1.idle
+
+-- what is done leaves no order to place again
+abbrev pub KeepsIdle : (Node → Node × Answer) → Type 0
+KeepsIdle act = (p : Node) → IsIdle p → IsIdle (act p).0
+
 -- a node has done something
-pub has_acted : (c d : Cluster) (w : World) (node : ℕ) (act : Node → Node × Answer) (old new : Held) (answer : Answer) → Stands c w → node < length c.nodes.items → old ≡ get_or c.nodes.items node old → Acts act old new answer
+pub has_acted : (c d : Cluster) (w : World) (node : ℕ) (act : Node → Node × Answer) (old new : Held) (answer : Answer) → Stands c w → node < length c.nodes.items → old ≡ get_or c.nodes.items node old → Acts act old new answer → KeepsIdle act
     → d.nodes.items ≡ slice_set c.nodes.items node new → d.slots ≡ c.slots → HasActed (act_at w node act) d answer
-has_acted c d w node act old new answer st h o a ns ss =
+has_acted c d w node act old new answer st h o a k ns ss =
     let p = found StandsFor c.nodes.items w.nodes node st.nodes h in
     let r = a p.0 (p.2 old o) in
     let acted : act_at w node act ≡ (record w { nodes = slice_set w.nodes node (act p.0).0 }, (act p.0).1) = ap (λ q. node_acts w q node act) p.1 in
     let stands : Stands d (record w { nodes = slice_set w.nodes node (act p.0).0 }) = record {
       nodes = subst (λ xs. AllZip StandsFor xs (slice_set w.nodes node (act p.0).0)) (sym ns) (both_set StandsFor c.nodes.items w.nodes node new (act p.0).0 st.nodes r.0);
       slots = ss ∙ st.slots;
+      idle = all_set IsIdle w.nodes node (act p.0).0 st.idle (k p.0 (all_at IsIdle w.nodes node p.0 p.1 st.idle));
     } in
     subst (λ (x : World × Answer). HasActed x d answer) (sym acted) (record { answered = r.1; stands = stands })
 
 -- a node has told something
-pub has_told : (c : Cluster) (w : World) (node : ℕ) (act : Node → Node × Answer) (state : Held) (answer : Answer) → Stands c w → node < length c.nodes.items → state ≡ get_or c.nodes.items node state → Acts act state state answer
+pub has_told : (c : Cluster) (w : World) (node : ℕ) (act : Node → Node × Answer) (state : Held) (answer : Answer) → Stands c w → node < length c.nodes.items → state ≡ get_or c.nodes.items node state → Acts act state state answer → KeepsIdle act
     → HasActed (act_at w node act) c answer
-has_told c w node act state answer st h o a =
-    has_acted c c w node act state state answer st h o a (sym (ap (λ x. slice_set c.nodes.items node x) o ∙ set-get_or c.nodes.items node state)) refl
+has_told c w node act state answer st h o a k =
+    has_acted c c w node act state state answer st h o a k (sym (ap (λ x. slice_set c.nodes.items node x) o ∙ set-get_or c.nodes.items node state)) refl
 
 -- a node has done nothing, whatever it is
 pub has_rested : (c d : Cluster) (w : World) (node : ℕ) (act : Node → Node × Answer) (answer : Answer) → Stands c w → node < length c.nodes.items → ((p : Node) → act p ≡ (p, answer)) → d.nodes.items ≡ c.nodes.items → d.slots ≡ c.slots
@@ -93,7 +105,7 @@ has_rested c d w node act answer st h a ns ss =
     let acted : act_at w node act ≡ (w, answer) =
     ap (λ q. node_acts w q node act) p.1 ∙ ap (λ (r : Node × Answer). (record w { nodes = slice_set w.nodes node r.0 }, r.1)) (a p.0)
     ∙ ap (λ (ps : List Node). (record w { nodes = ps }, answer)) (same_set w.nodes node p.0 p.1) in
-    let stands : Stands d w = record { nodes = subst (λ xs. AllZip StandsFor xs w.nodes) (sym ns) st.nodes; slots = ss ∙ st.slots } in
+    let stands : Stands d w = record { nodes = subst (λ xs. AllZip StandsFor xs w.nodes) (sym ns) st.nodes; slots = ss ∙ st.slots; idle = st.idle } in
     subst (λ (x : World × Answer). HasActed x d answer) (sym acted) (record { answered = refl; stands = stands })
 
 slot_of : (c : Cluster) (w : World) (slot : ℕ) (o : Option Block) → Stands c w → o ≡ get c.slots slot → get w.slots slot ≡ o
@@ -107,9 +119,9 @@ slot_empty c d w node slot act st h e a ns ss =
 
 -- a node has done something with the block of a slot
 pub slot_acted : (c d : Cluster) (w : World) (node slot : ℕ) (act : Option Block → Node → Node × Answer) (b : Block) (old new : Held) (answer : Answer) → Stands c w → node < length c.nodes.items → Some b ≡ get c.slots slot → old ≡ get_or c.nodes.items node old
-    → Acts (act (Some b)) old new answer → d.nodes.items ≡ slice_set c.nodes.items node new → d.slots ≡ c.slots → HasActed (act_at w node (act (get w.slots slot))) d answer
-slot_acted c d w node slot act b old new answer st h e o a ns ss =
-    subst (λ q. HasActed (act_at w node (act q)) d answer) (sym (slot_of c w slot (Some b) st e)) (has_acted c d w node (act (Some b)) old new answer st h o a ns ss)
+    → Acts (act (Some b)) old new answer → KeepsIdle (act (Some b)) → d.nodes.items ≡ slice_set c.nodes.items node new → d.slots ≡ c.slots → HasActed (act_at w node (act (get w.slots slot))) d answer
+slot_acted c d w node slot act b old new answer st h e o a k ns ss =
+    subst (λ q. HasActed (act_at w node (act q)) d answer) (sym (slot_of c w slot (Some b) st e)) (has_acted c d w node (act (Some b)) old new answer st h o a k ns ss)
 
 -- one more node with no blocks
 pub one_more_node : (items more : List Held) (g : Genesis) (node : Held) (i next : ℕ) → AllZip StandsFor items (map (λ number. new_node number g) (range_with_len 0 i)) → StandsFor node (new_node i g) → more ≡ items ++ node ∷ [] → next ≡ i + 1
@@ -133,6 +145,7 @@ has_proposed c d w node slot time h b answer st l o f a ns ss =
     let stands : Stands d (record w { slots = insert w.slots slot b }) = record {
       nodes = subst (λ xs. AllZip StandsFor xs w.nodes) (sym ns) st.nodes;
       slots = ss ∙ ap (λ (m : Stored). insert m slot b) st.slots;
+      idle = st.idle;
     } in
     subst (λ (x : World × Answer). HasActed x d answer) (sym did) (record { answered = a; stands = stands })
 

@@ -3,6 +3,7 @@ use Rattle.std.specs.Prelude.{ℕ, Bool, if◌then◌else◌, List, [], ◌∷�
 use Rattle.dx_types.specs.declared.SubaccountId.{SubaccountId}
 use Rattle.dx_types.specs.declared.OrderId.{OrderId}
 use Rattle.dx_types.specs.declared.Order.{Order}
+use Rattle.dx_types.specs.declared.Msg.{Msg}
 use Rattle.dx_types.specs.declared.Account.{Account}
 use Rattle.dx_types.specs.declared.Block.{Block}
 use Rattle.dx_types.specs.declared.Bad.{Bad}
@@ -12,9 +13,9 @@ use Rattle.dx_spec.specs.Audits.{audit}
 use Rattle.dx_node_spec.specs.Refusals.{unknown_market}
 use Rattle.dx_node_spec.specs.Node.{Node, committed}
 use Rattle.dx_node_spec.specs.Placing.{Outcome, AllFilled, Rested, Dropped, Stopped, Refusal, refusal, place}
-use Rattle.dx_node_spec.specs.Events.{fed, cancel, cancel_all}
+use Rattle.dx_node_spec.specs.Events.{fed, pooled, cancel, cancel_all, sweep}
+use Rattle.dx_node_spec.specs.Commits.{commit, placed_again}
 use Rattle.dx_node_spec.specs.Reads as tells
-use Rattle.dx_node.specs.Stage.{commit}
 use Rattle.dx_print.specs.declared.answer.Answer.{Answer}
 use Rattle.dx_print.specs.declared.answer.Answer.TheVariants as answers
 
@@ -60,14 +61,27 @@ cancel_all_answer p (Err cause) = (p, refused cause)
 abbrev pub cancel_orders : SubaccountId → Node → Node × Answer
 cancel_orders who p = cancel_all_answer p (cancel_all p who)
 
--- the node with the price, or the refusal, which changes nothing
-abbrev pub feed_answer : Node → Result Node Refusal → Node × Answer
-feed_answer p (Ok q) = (q, answers.Done None)
-feed_answer p (Err cause) = (p, refused cause)
+-- the node after it is done, or the refusal, which changes nothing
+abbrev pub done_answer : Node → Result Node Refusal → Node × Answer
+done_answer p (Ok q) = (q, answers.Done None)
+done_answer p (Err cause) = (p, refused cause)
 
 -- a node is fed a price
 abbrev pub feed_price : ℕ → ℕ → Node → Node × Answer
-feed_price market price p = feed_answer p (fed p market price)
+feed_price market price p = done_answer p (fed p market price)
+
+-- a node gets a message into its pool
+abbrev pub pool_message : Msg → Node → Node × Answer
+pool_message m p = done_answer p (pooled p m)
+
+-- the node after a sweep, and how many fills and offsets it made; or the refusal, which changes nothing
+abbrev pub sweep_answer : Node → Result (Node × ℕ × ℕ) Refusal → Node × Answer
+sweep_answer p (Ok r) = (r.0, answers.Swept r.1 r.2)
+sweep_answer p (Err cause) = (p, refused cause)
+
+-- a node liquidates and deleverages an account
+abbrev pub sweep_account : SubaccountId → Node → Node × Answer
+sweep_account who p = sweep_answer p (sweep p who)
 
 -- whether a block is good, or its first bad part
 abbrev pub check_answer : Result (State × List ℕ) Bad → Answer
@@ -83,9 +97,9 @@ slot_answer (Some b) p = check_answer (block_step (committed p) b)
 abbrev pub check_slot : Option Block → Node → Node × Answer
 check_slot o p = (p, slot_answer o p)
 
--- the height and the results of a good block, or its first bad part, which changes nothing
+-- the height and the results of a good block, behind which the node places its orders again; or its first bad part, which changes nothing
 abbrev pub commit_answer : Node → Block → Result (Node × List ℕ) Bad → Node × Answer
-commit_answer p b (Ok r) = (r.0, answers.Good (b.height ∷ r.1))
+commit_answer p b (Ok r) = (placed_again r.0, answers.Good (b.height ∷ r.1))
 commit_answer p b (Err bad) = (p, answers.Bad bad)
 
 -- a node commits the block of a slot

@@ -1,5 +1,5 @@
 -- All nodes and slots, and what an event does.
-use Rattle.std.specs.Prelude.{◌≡◌, ℕ, List, map, length, sum_by, Option, Some, None, Result, Ok, Err, slice_get, slice_set}
+use Rattle.std.specs.Prelude.{◌≡◌, ℕ, List, [], map, length, sum_by, Option, Some, None, Result, Ok, Err, slice_get, slice_set, All}
 use Rattle.std.specs.List.{AllZip, range_with_len}
 use Rattle.std.specs.FinMap.{get, insert, empty}
 use Rattle.dx_types.specs.declared.Block.{Block}
@@ -19,7 +19,7 @@ use Rattle.dx_print.specs.declared.answer.Answer.{Answer}
 use Rattle.dx_print.specs.declared.answer.Answer.TheVariants as answers
 use Rattle.dx_cluster.specs.declared.cluster.Cluster.{Cluster}
 use Rattle.dx_cluster.specs.Stored.{Stored}
-use Rattle.dx_cluster.specs.Acts.{height_of, refused, place_order, cancel_order, cancel_orders, feed_price, check_slot, commit_slot, tell_balance, tell_speculative, tell_filled, tell_best, tell_audit}
+use Rattle.dx_cluster.specs.Acts.{height_of, refused, place_order, cancel_order, cancel_orders, feed_price, pool_message, sweep_account, check_slot, commit_slot, tell_balance, tell_speculative, tell_filled, tell_best, tell_audit}
 
 -- the nodes by number, and the blocks in the slots
 pub record World : Type 0 where
@@ -70,9 +70,9 @@ abbrev pub acted : World → Event → World × Answer
 acted w (events.Place node order) = act_at w node (place_order order)
 acted w (events.Cancel node id until) = act_at w node (cancel_order id until)
 acted w (events.CancelAll node who) = act_at w node (cancel_orders who)
-acted w (events.Message node msg) = unanswered w
+acted w (events.Message node msg) = act_at w node (pool_message msg)
 acted w (events.Feed node market price) = act_at w node (feed_price market price)
-acted w (events.Sweep node who) = unanswered w
+acted w (events.Sweep node who) = act_at w node (sweep_account who)
 acted w (events.Propose node slot time) = propose_at w node slot time
 acted w (events.Handed slot b) = (record w { slots = insert w.slots slot b }, answers.Done None)
 acted w (events.Show slot) = unanswered w
@@ -94,10 +94,19 @@ replied word r = (r.0, record { word = word; answer = r.1 })
 abbrev pub step : World → Event → World × Reply
 step w event = replied (word_of event) (acted w event)
 
+-- a node has no order to place again: so it is between two events
+abbrev pub IsIdle : Node → Type 0
+IsIdle p = p.again ≡ []
+
 -- what the program holds stands for the nodes and slots: each state is the plain fold of its node's blocks
 pub record Stands (c : Cluster) (w : World) : Type 0 where
   pub nodes : AllZip StandsFor c.nodes.items w.nodes
   pub slots : c.slots ≡ w.slots
+  pub idle : All IsIdle w.nodes
+
+-- there are nodes and slots that it stands for
+abbrev pub StandsForSome : Cluster → Type 0
+StandsForSome c = (w : World) × Stands c w
 
 -- for every plain node that the old one stands for, the new one stands for what the act makes of it, and the answer is that of the act
 abbrev pub Acts : (Node → Node × Answer) → Held → Held → Answer → Type 0

@@ -1,15 +1,18 @@
 //! What one node does, and its answer.
 
-ghost use Rattle.std.specs.Prelude.{◌≡◌, ◌∷◌, Some, IfOk};
+ghost use Rattle.std.specs.Prelude.{◌≡◌, [], ◌∷◌, Some, IfOk, OnOk};
+ghost use Rattle.dx_node_spec.specs.Node.{Node as PlainNode};
+ghost use Rattle.dx_node_spec.specs.Commits.{placed_again};
+ghost use Rattle.dx_node.specs.Standing.{StandsFor};
 ghost use Rattle.dx_node.specs.Trades.{outcome_of};
-ghost use Rattle.dx_cluster.specs.Acts.{outcome_answer, place_order, cancel_order, cancel_orders, feed_price, check_slot, commit_slot, best_answer, tell_balance, tell_speculative, tell_filled, tell_best, tell_audit};
+ghost use Rattle.dx_cluster.specs.Acts.{outcome_answer, place_order, cancel_order, cancel_orders, feed_price, pool_message, sweep_account, check_slot, commit_slot, best_answer, tell_balance, tell_speculative, tell_filled, tell_best, tell_audit};
 ghost use Rattle.dx_cluster.specs.World.{Acts};
 ghost use Rattle.dx_cluster.specs.Refusals.{AnswersBlock, AnswersCause, cause_answer};
 
 use dx_node::{Node, Placed, Refusal};
 use dx_print::Answer;
 use dx_rules::BlockFault;
-use dx_types::{Block, List, NoMemory, Order, OrderId, SubaccountId};
+use dx_types::{Block, List, Msg, NoMemory, Order, OrderId, SubaccountId};
 use std::alloc::Global;
 
 /// The refusal of a market that is unknown.
@@ -52,6 +55,7 @@ fn outcome_answer(placed: Placed) -> Answer
 
 /// A node takes an order.
 pub(crate) fn place_order(node: &mut Node, order: &Order) -> Result<Answer, NoMemory>
+    requires idle { node.old.again ≡ [] }
     ensures { IfOk result (λ answer. Acts (place_order order.now) node.old node.new answer) }
 {
     match node.place(order) {
@@ -62,6 +66,7 @@ pub(crate) fn place_order(node: &mut Node, order: &Order) -> Result<Answer, NoMe
 
 /// A node cancels a short-term order: 1 where a resting one left for it, else 0.
 pub(crate) fn cancel_order(node: &mut Node, id: &OrderId, until: u32) -> Result<Answer, NoMemory>
+    requires idle { node.old.again ≡ [] }
     ensures { IfOk result (λ answer. Acts (cancel_order id.now until) node.old node.new answer) }
 {
     match node.cancel(id, until) {
@@ -72,6 +77,7 @@ pub(crate) fn cancel_order(node: &mut Node, id: &OrderId, until: u32) -> Result<
 
 /// A node cancels the resting short-term orders of an account, and tells how many.
 pub(crate) fn cancel_orders(node: &mut Node, who: SubaccountId) -> Result<Answer, NoMemory>
+    requires idle { node.old.again ≡ [] }
     ensures { IfOk result (λ answer. Acts (cancel_orders who) node.old node.new answer) }
 {
     match node.cancel_all(who) {
@@ -82,11 +88,37 @@ pub(crate) fn cancel_orders(node: &mut Node, who: SubaccountId) -> Result<Answer
 
 /// A node is fed a price.
 pub(crate) fn feed_price(node: &mut Node, market: u32, price: u64) -> Answer
+    requires idle { node.old.again ≡ [] }
     ensures { Acts (feed_price market price) node.old node.new result }
 {
     match node.feed(market, price) {
         Ok(()) => Answer::Done(None),
         Err(fault) => refused(fault.refusal()),
+    }
+}
+
+/// A node gets a message into its pool.
+pub(crate) fn pool_message(node: &mut Node, msg: &Msg) -> Result<Answer, NoMemory>
+    requires idle { node.old.again ≡ [] }
+    ensures { IfOk result (λ answer. Acts (pool_message msg.now) node.old node.new answer) }
+{
+    match node.message(msg) {
+        Ok(()) => Ok(Answer::Done(None)),
+        Err(fault) => refused_or_memory(fault.refusal()),
+    }
+}
+
+/// A node sweeps an account, and tells how many fills liquidated it and how many offsets deleveraged it.
+pub(crate) fn sweep_account(node: &mut Node, who: SubaccountId) -> Result<Answer, NoMemory>
+    requires idle { node.old.again ≡ [] }
+    ensures { IfOk result (λ answer. Acts (sweep_account who) node.old node.new answer) }
+{
+    match node.sweep(who) {
+        Ok(swept) => Ok(Answer::Swept {
+            fills: swept.fills,
+            offsets: swept.offsets,
+        }),
+        Err(fault) => refused_or_memory(fault.refusal()),
     }
 }
 
@@ -102,6 +134,7 @@ fn block_refusal(fault: BlockFault) -> Result<Answer, NoMemory>
 
 /// A node tests a block, and stays as it was.
 pub(crate) fn check_block(alloc: Global, node: &mut Node, block: &Block) -> Result<Answer, NoMemory>
+    requires idle { node.old.again ≡ [] }
     ensures { IfOk result (λ answer. Acts (check_slot (Some block.now)) node.old node.new answer) }
 {
     match node.check(block) {
@@ -120,12 +153,27 @@ fn good_numbers(height: u32, results: &List<u32>) -> Result<List<u32>, NoMemory>
     Ok(List::from_vec(numbers))
 }
 
-/// A node commits a block.
+/// Places all orders of a node's list again, one after another: each turn takes the first.
+fn place_list_again(node: &mut Node) -> Result<(), NoMemory>
+    ensures { OnOk result ((p : PlainNode) → StandsFor node.old p → StandsFor node.new (placed_again p)) }
+{
+    'turns: for _turn in 0..node.pending() {
+        node.replay_next()?;
+    }
+    Ok(())
+}
+
+/// A node commits a block, and places its orders again.
 pub(crate) fn commit_block(node: &mut Node, block: &Block) -> Result<Answer, NoMemory>
+    requires idle { node.old.again ≡ [] }
     ensures { IfOk result (λ answer. Acts (commit_slot (Some block.now)) node.old node.new answer) }
 {
     match node.commit(block) {
-        Ok(results) => Ok(Answer::Good(good_numbers(block.height, &results)?)),
+        Ok(results) => {
+            let numbers = good_numbers(block.height, &results)?;
+            place_list_again(node)?;
+            Ok(Answer::Good(numbers))
+        }
         Err(fault) => block_refusal(fault),
     }
 }

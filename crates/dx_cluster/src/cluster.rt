@@ -3,15 +3,16 @@
 ghost use Rattle.std.specs.Prelude.{◌<◌, ◌≤◌, length};
 
 use crate::acts::{
-    cancel_order, cancel_orders, check_block, commit_block, feed_price, place_order,
-    refused_or_memory, tell_audit, tell_balance, tell_best, tell_filled, tell_speculative,
+    cancel_order, cancel_orders, check_block, commit_block, feed_price, place_order, pool_message,
+    refused_or_memory, sweep_account, tell_audit, tell_balance, tell_best, tell_filled,
+    tell_speculative,
 };
 use crate::proposed::proposed;
 use crate::slots::Slots;
 use dx_node::Node;
 use dx_print::{Answer, Reply};
 use dx_scenario::Event;
-use dx_types::{Genesis, List, NoMemory, Order, OrderId, SubaccountId};
+use dx_types::{Genesis, List, Msg, NoMemory, Order, OrderId, SubaccountId};
 use std::alloc::Global;
 
 /// The nodes by number, and the slots for blocks.
@@ -31,8 +32,8 @@ impl Cluster {
     ghost use Rattle.dx_spec.specs.Genesis.{IsNatFrom, IsGenesis};
     ghost use Rattle.dx_scenario.specs.Events.{IsOf};
     ghost use Rattle.dx_cluster.specs.Built.{unbuilt_place};
-    ghost use Rattle.dx_cluster.specs.Acts.{place_order, cancel_order, cancel_orders, feed_price, check_slot, commit_slot, tell_balance, tell_speculative, tell_filled, tell_best, tell_audit};
-    ghost use Rattle.dx_cluster.specs.World.{World, world_of, heights, act_at, propose_at, acted, step, Stands, HasActed, IsDone};
+    ghost use Rattle.dx_cluster.specs.Acts.{place_order, cancel_order, cancel_orders, feed_price, pool_message, sweep_account, check_slot, commit_slot, tell_balance, tell_speculative, tell_filled, tell_best, tell_audit};
+    ghost use Rattle.dx_cluster.specs.World.{World, world_of, heights, act_at, propose_at, acted, step, Stands, StandsForSome, HasActed, IsDone};
 
     /// From 1 to 16 nodes of one genesis, numbered from 0, and no slot filled ("Genesis line" in
     /// docs/FORMAT.md). `NoMemory` where there is none for them.
@@ -71,7 +72,8 @@ impl Cluster {
 
     /// A node takes an order.
     fn place(&mut self, node: u32, order: &Order) -> Result<Answer, NoMemory>
-        requires { node < length self.old.nodes.items }
+        requires stands { StandsForSome self.old }
+        requires there { node < length self.old.nodes.items }
         ensures { IfOk result (λ answer. (w : World) → Stands self.old w
             → HasActed (act_at w node (place_order order.now)) self.new answer) }
     {
@@ -80,7 +82,8 @@ impl Cluster {
 
     /// A node cancels a short-term order.
     fn cancel(&mut self, node: u32, id: &OrderId, until: u32) -> Result<Answer, NoMemory>
-        requires { node < length self.old.nodes.items }
+        requires stands { StandsForSome self.old }
+        requires there { node < length self.old.nodes.items }
         ensures { IfOk result (λ answer. (w : World) → Stands self.old w
             → HasActed (act_at w node (cancel_order id.now until)) self.new answer) }
     {
@@ -89,7 +92,8 @@ impl Cluster {
 
     /// A node cancels the resting short-term orders of an account.
     fn cancel_all(&mut self, node: u32, who: SubaccountId) -> Result<Answer, NoMemory>
-        requires { node < length self.old.nodes.items }
+        requires stands { StandsForSome self.old }
+        requires there { node < length self.old.nodes.items }
         ensures { IfOk result (λ answer. (w : World) → Stands self.old w
             → HasActed (act_at w node (cancel_orders who)) self.new answer) }
     {
@@ -98,16 +102,38 @@ impl Cluster {
 
     /// A node is fed a price.
     fn feed(&mut self, node: u32, market: u32, price: u64) -> Answer
-        requires { node < length self.old.nodes.items }
+        requires stands { StandsForSome self.old }
+        requires there { node < length self.old.nodes.items }
         ensures { (w : World) → Stands self.old w
             → HasActed (act_at w node (feed_price market price)) self.new result }
     {
         feed_price(&mut self.nodes[node as usize], market, price)
     }
 
+    /// A node gets a message into its pool.
+    fn message(&mut self, node: u32, msg: &Msg) -> Result<Answer, NoMemory>
+        requires stands { StandsForSome self.old }
+        requires there { node < length self.old.nodes.items }
+        ensures { IfOk result (λ answer. (w : World) → Stands self.old w
+            → HasActed (act_at w node (pool_message msg.now)) self.new answer) }
+    {
+        pool_message(&mut self.nodes[node as usize], msg)
+    }
+
+    /// A node sweeps an account.
+    fn sweep(&mut self, node: u32, who: SubaccountId) -> Result<Answer, NoMemory>
+        requires stands { StandsForSome self.old }
+        requires there { node < length self.old.nodes.items }
+        ensures { IfOk result (λ answer. (w : World) → Stands self.old w
+            → HasActed (act_at w node (sweep_account who)) self.new answer) }
+    {
+        sweep_account(&mut self.nodes[node as usize], who)
+    }
+
     /// A node makes a block and puts it into a slot.
     fn propose(&mut self, node: u32, slot: u32, time: u32) -> Result<Answer, NoMemory>
-        requires { node < length self.old.nodes.items }
+        requires stands { StandsForSome self.old }
+        requires there { node < length self.old.nodes.items }
         ensures { IfOk result (λ answer. (w : World) → Stands self.old w
             → HasActed (propose_at w node slot time) self.new answer) }
     {
@@ -123,7 +149,8 @@ impl Cluster {
 
     /// A node tests the block of a slot.
     fn check(&mut self, node: u32, slot: u32) -> Result<Answer, NoMemory>
-        requires { node < length self.old.nodes.items }
+        requires stands { StandsForSome self.old }
+        requires there { node < length self.old.nodes.items }
         ensures { IfOk result (λ answer. (w : World) → Stands self.old w
             → HasActed (act_at w node (check_slot (get w.slots slot))) self.new answer) }
     {
@@ -136,7 +163,8 @@ impl Cluster {
 
     /// A node commits the block of a slot.
     fn commit(&mut self, node: u32, slot: u32) -> Result<Answer, NoMemory>
-        requires { node < length self.old.nodes.items }
+        requires stands { StandsForSome self.old }
+        requires there { node < length self.old.nodes.items }
         ensures { IfOk result (λ answer. (w : World) → Stands self.old w
             → HasActed (act_at w node (commit_slot (get w.slots slot))) self.new answer) }
     {
@@ -188,6 +216,7 @@ impl Cluster {
 
     /// Does what an event asks for, and tells the answer.
     fn act(&mut self, event: Event) -> Result<Answer, NoMemory>
+        requires stands { StandsForSome self.old }
         requires of { IsOf (length self.old.nodes.items) event }
         requires built { unbuilt_place event ≡ None }
         ensures { IfOk result (λ answer. (w : World) → Stands self.old w → HasActed (acted w event) self.new answer) }
@@ -205,6 +234,8 @@ impl Cluster {
                 market,
                 price,
             } => Ok(self.feed(node, market, price)),
+            Event::Message { node, msg } => self.message(node, &msg),
+            Event::Sweep { node, who } => self.sweep(node, who),
             Event::Propose { node, slot, time } => self.propose(node, slot, time),
             Event::Check { node, slot } => self.check(node, slot),
             Event::Commit { node, slot } => self.commit(node, slot),
@@ -213,19 +244,18 @@ impl Cluster {
             Event::Filled { node, id } => Ok(self.filled(node, &id)),
             Event::Best { node, market } => Ok(self.best(node, market)),
             Event::Audit { node } => Ok(self.audit(node)),
-            Event::Message { .. }
-            | Event::Sweep { .. }
-            | Event::Show { .. }
-            | Event::Digest { .. }
-            | Event::Restart { .. } => unreachable!(),
+            Event::Show { .. } | Event::Digest { .. } | Event::Restart { .. } => unreachable!(),
         }
     }
 
-    /// Executes an event of which all is built, and tells the reply ("Events" in docs/FORMAT.md).
+    /// Executes an event that is built, and tells the reply ("Events" in docs/FORMAT.md).
+    ///
+    /// The cluster stands for some nodes and slots, as it does when it is made and behind each event.
     ///
     /// `NoMemory` where there is none for what it keeps, tests or applies, or for the answer. Of the cluster
     /// nothing is promised then: the run ends.
     pub fn serve(&mut self, event: Event) -> Result<Reply, NoMemory>
+        requires stands { StandsForSome self.old }
         requires of { IsOf (length self.old.nodes.items) event }
         requires built { unbuilt_place event ≡ None }
         ensures { IfOk result (λ reply. (w : World) → Stands self.old w → IsDone (step w event) self.new reply) }

@@ -4,8 +4,9 @@
 //! node does). [`Cluster::serve`] is equal to `step` of `specs/World`: for every world that the cluster stands
 //! for, the reply is that of the definition, and the cluster stands for the world after the event. A node's
 //! states there are computed again from the genesis each time: the plain fold of its committed blocks, and
-//! its queue behind them. [`unbuilt_place`] names the place of what is not built in an event; only what is
-//! built is served. One more event is one more case of `acted`.
+//! its queue behind them. Behind a commit a node places its orders again before the next event, so between two
+//! events none is left to place. [`unbuilt_place`] names the place of what is not built in an event; only what
+//! is built is served. One more event is one more case of `acted`.
 //!
 //! Seven laws hold of the worlds that a scenario reaches: the committed state of each node is the plain fold
 //! of its blocks ([`folds_stay_good`]), it is balanced and sound, which its audit shows ([`states_balance`]),
@@ -28,6 +29,3 @@ pub use laws::{
     placings_stop_by_risk, proposals_are_good, states_balance,
 };
 pub use slots::Slots;
-
-#[cfg(test)]
-mod tests;

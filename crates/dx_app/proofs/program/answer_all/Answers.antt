@@ -4,6 +4,9 @@ use Rattle.dx_app.proofs.Runs.{run_at_fault, run_then, greeting_ends, greeted}
 use Rattle.dx_app.proofs.Prompt.{run_some, front_some, silent_some, no_further, no_further_first, replies_out, replies_out_first, behind_later, whole_later}
 use Rattle.dx_app.proofs.program.answer_all.Goals as goal
 
+pub replay_lines-requires : goal.replay_lines-requires
+replay_lines-requires g c = (world_of c.in-Ok.first.0 c.in-Ok.first.1, c.in-Ok-new.ensures)
+
 pub returns-in-Err-greet-clause-said : goal.returns-in-Err-greet-clause-said
 returns-in-Err-greet-clause-said g c =
     let written = c.in-Err-greet.ensures.written (world_of c.in-Ok.first.0 c.in-Ok.first.1) c.in-Ok-new.ensures in

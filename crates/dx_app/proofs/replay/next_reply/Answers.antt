@@ -10,17 +10,17 @@ returns-in-Err-clause-ended g c = λ w st. run_at_fault _ _ _ c.end_reading.resu
 pub returns-in-Line-clause-goes_on : goal.returns-in-Line-clause-goes_on
 returns-in-Line-clause-goes_on g c =
     let cuts = rw (c.in-Line.is, ← c.as_slice.ensures.value) at c.in-Ok.ensures.cut in
-    on_ok_weaker c.answer_line.result (λ f w st. line_goes_on _ _ _ _ _ _ _ _ w c.args.number cuts c.requires (f w st)) c.answer_line.ensures.answered
+    on_ok_weaker c.answer_line.result (λ f w st. line_goes_on _ _ _ _ _ _ _ _ w c.args.number cuts c.requires.number (f w st)) c.answer_line.ensures.answered
 
 pub returns-in-Line-clause-ended : goal.returns-in-Line-clause-ended
 returns-in-Line-clause-ended g c =
     let cuts = rw (c.in-Line.is, ← c.as_slice.ensures.value) at c.in-Ok.ensures.cut in
-    MatchResult-weaker c.answer_line.result c.answer_line.ensures.ended (λ _ _. tt) (λ s f w st. line_ends _ _ _ _ _ _ _ w c.args.number s cuts c.requires (f w st))
+    MatchResult-weaker c.answer_line.result c.answer_line.ensures.ended (λ _ _. tt) (λ s f w st. line_ends _ _ _ _ _ _ _ w c.args.number s cuts c.requires.number (f w st))
 
 pub returns-in-Broken-clause-ended : goal.returns-in-Broken-clause-ended
 returns-in-Broken-clause-ended g c = λ w st.
     let cuts = rw c.in-Broken.is at c.in-Ok.ensures.cut in
-    broken_ends _ _ _ _ _ _ _ w c.args.number c.end_badly.result cuts c.requires c.end_badly.ensures.said
+    broken_ends _ _ _ _ _ _ _ w c.args.number c.end_badly.result cuts c.requires.number c.end_badly.ensures.said
 
 pub returns-in-End-clause-ended : goal.returns-in-End-clause-ended
 returns-in-End-clause-ended g c = λ w st.

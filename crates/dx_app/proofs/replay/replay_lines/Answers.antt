@@ -11,6 +11,12 @@ lines-init g c = record {
   later = record { reads = omega arith; writes = omega arith };
 }
 
+-- the cluster of the lines so far stands for the nodes that they led to
+pub next_reply-requires-clause-stands : goal.next_reply-requires-clause-stands
+next_reply-requires-clause-stands g c =
+    let gone = c.lines.invariant.goes_on c.requires.0 c.requires.1 in
+    (gone.world, gone.stands)
+
 pub returns-in-Err-clause-said : goal.returns-in-Err-clause-said
 returns-in-Err-clause-said g c = λ w st. run_then _ _ _ _ _ _ _ _ _ c.lines.number c.in-Err.status (c.lines.invariant.goes_on w st) (λ v sv. c.in-Err.ensures.ended v sv)
 

@@ -1,4 +1,7 @@
 use Rattle.std.proofs.Common.{◌+◌, arith, refl}
+use Rattle.dx_cluster.specs.World.{IsIdle}
+use Rattle.dx_cluster.proofs.Everywhere.{first_nodes}
+use Rattle.dx_cluster.proofs.Idling.{new_idle}
 use Rattle.dx_cluster.proofs.Worlds.{one_more_node, new_nodes}
 use Rattle.dx_cluster.proofs.cluster.Cluster.new.Goals as goal
 
@@ -9,4 +12,4 @@ nodes-preserved c = record {
 }
 
 pub returns : goal.returns
-returns c = record { nodes = new_nodes c.nodes.nodes.items c.args.genesis.now c.nodes.number c.args.count c.nodes.invariant.stand (omega arith); slots = c.new-2.ensures }
+returns c = record { nodes = new_nodes c.nodes.nodes.items c.args.genesis.now c.nodes.number c.args.count c.nodes.invariant.stand (omega arith); slots = c.new-2.ensures; idle = first_nodes IsIdle c.args.count c.args.genesis.now (λ number. new_idle number c.args.genesis.now) }
