@@ -1,5 +1,5 @@
 -- No node has an order left to place again behind an event, if none had before it.
-use Rattle.std.proofs.Common.{◌≡◌, ℕ, List, [], ◌∷◌, Option, Some, None, Result, Ok, Err, refl, subst, ap, ◌∙◌}
+use Rattle.std.proofs.Common.{◌≡◌, ℕ, List, Option, Some, None, Result, Ok, Err, refl, subst, ◌∙◌}
 use Rattle.dx_types.specs.declared.SubaccountId.{SubaccountId}
 use Rattle.dx_types.specs.declared.OrderId.{OrderId}
 use Rattle.dx_types.specs.declared.Order.{Order}
@@ -9,7 +9,7 @@ use Rattle.dx_types.specs.declared.Bad.{Bad}
 use Rattle.dx_types.specs.declared.Genesis.{Genesis}
 use Rattle.dx_node_spec.specs.Node.{Node, new_node}
 use Rattle.dx_node_spec.specs.Placing.{place}
-use Rattle.dx_node_spec.specs.Events.{fed, pooled, cancel, cancel_all, orders_of, with_cancel, sweep}
+use Rattle.dx_node_spec.specs.Events.{fed, pooled, cancel, cancel_all, orders_of, sweep}
 use Rattle.dx_node_spec.specs.Commits.{commit}
 use Rattle.dx_speculation.specs.NodeEvents.{NodeEvent, Placing, Cancelling, CancellingAll, Pooling, Feeding, Sweeping, Committing, Replaying, after as node_after}
 use Rattle.dx_speculation.proofs.Outcomes.{placed_is_taken, cancelled_is, cancels-keep, cancelled_all_is, pooled_is, fed_is, swept_is}

@@ -1,16 +1,15 @@
 -- What stays so of the nodes whatever happens.
-use Rattle.std.proofs.Common.{◌≡◌, ◌<◌, ℕ, zero, suc, List, [], ◌∷◌, map, arith, refl, subst, sym, ap, ◌∙◌, Option, Some, None, Result, Ok, Err}
+use Rattle.std.proofs.Common.{◌≡◌, ℕ, zero, suc, List, [], ◌∷◌, map, refl, subst, sym, ap, ◌∙◌, Option, Some, None, Result, Ok, Err}
 use Rattle.std.specs.Prelude.{slice_get, slice_set, All}
 use Rattle.std.specs.FinMap.{get}
 use Rattle.dx_types.specs.declared.Block.{Block}
-use Rattle.dx_types.specs.declared.Order.{Order}
 use Rattle.dx_types.specs.declared.Genesis.{Genesis}
 use Rattle.dx_spec.specs.Lists.{changed_at}
 use Rattle.dx_spec.specs.State.{State}
 use Rattle.dx_spec.specs.Genesis.{IsGenesis}
 use Rattle.dx_laws.proofs.Auditing.{balance_shown}
 use Rattle.dx_sound.proofs.Both.{blocks_are_sound}
-use Rattle.dx_node_spec.specs.Node.{Node, new_node, committed}
+use Rattle.dx_node_spec.specs.Node.{Node, committed}
 use Rattle.dx_node_spec.specs.Placing.{Refusal, place}
 use Rattle.dx_node_spec.specs.Events.{fed, pooled, cancel, cancel_all, sweep}
 use Rattle.dx_speculation.specs.NodeEvents.{NodeEvent, Placing, Cancelling, CancellingAll, Pooling, Feeding, Sweeping, IsNoCommit, after as node_after}

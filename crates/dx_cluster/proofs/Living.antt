@@ -12,7 +12,7 @@ use Rattle.dx_spec.specs.Step.{◌>>=◌}
 use Rattle.dx_spec.specs.State.{State, genesis_state}
 use Rattle.dx_spec.specs.Genesis.{IsGenesis}
 use Rattle.dx_spec.specs.Blocks.{block_step, fold_blocks, fold_from}
-use Rattle.dx_node_spec.specs.Node.{Node, new_node, committed, speculative}
+use Rattle.dx_node_spec.specs.Node.{Node, new_node, committed}
 use Rattle.dx_node_spec.specs.Placing.{Outcome, AllFilled, Rested, Dropped, Stopped, Refusal, place}
 use Rattle.dx_node_spec.specs.Events.{fed, pooled, cancel, cancel_all, sweep}
 use Rattle.dx_node_spec.specs.Commits.{adopted, commit, replay_next, placed_again, after_turns}

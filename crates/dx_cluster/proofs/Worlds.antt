@@ -1,6 +1,6 @@
 -- What the program holds, and the nodes and slots that it stands for.
 use Rattle.std.proofs.Common.{◌≡◌, ◌<◌, ◌≤◌, ◌+◌, ℕ, zero, suc, List, [], ◌∷◌, ◌++◌, map, length, take, refl, sym, ap, subst, ◌∙◌, arith, add-one, get_or, Option, Some, None, Result, Ok, Err, IfOk}
-use Rattle.std.specs.Prelude.{slice_get, slice_set, IsErr, All}
+use Rattle.std.specs.Prelude.{slice_get, slice_set, IsErr}
 use Rattle.std.specs.List.{AllZip, range_with_len}
 use Rattle.std.specs.FinMap.{get, insert}
 use Rattle.std.proofs.lemmas.Slice.Zip.{AllZip-long}
