@@ -1,0 +1,19 @@
+//! The blocks of nodes as rows of a keeper.
+//!
+//! It stands on `dx_io` for the trait of a keeper and on `dx_codec` for the bytes of a block. [`keep_block`]
+//! sets one row, that of a node at the block's height, to the block's bytes. [`kept_block`] gives the block
+//! whose bytes a row has; `Bad` comes exactly where the row is missing or is no block's bytes. `Failed` comes
+//! only where the keeper's count of faults rose, and no call changes a row when it is refused. What the rows
+//! of a node say all together, a chain of blocks from a genesis or the first height at which they are none,
+//! is `specs/Chains.antt: kept`. Both calls take memory from the allocator of the block, or of the row.
+#![tactic(auto)]
+
+mod blocks;
+mod fault;
+mod laws;
+#[cfg(test)]
+mod tests;
+
+pub use blocks::{keep_block, kept_block};
+pub use fault::HistoryFault;
+pub use laws::rows_grow;
