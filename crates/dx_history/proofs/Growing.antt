@@ -1,5 +1,5 @@
 -- The rows of a chain when one more row is set.
-use Rattle.std.proofs.Common.{◌≡◌, ℕ, zero, suc, ◌+◌, Bool, true, false, cond, ◌==◌, ◌&&◌, List, [], ◌∷◌, ◌++◌, length, slice_get, Option, Some, None, option_map, refl, sym, ap, subst, ◌∙◌, arith}
+use Rattle.std.proofs.Common.{◌≡◌, ℕ, zero, suc, ◌+◌, Bool, true, false, cond, ◌==◌, ◌&&◌, List, [], ◌∷◌, ◌++◌, length, slice_get, Option, Some, option_map, refl, sym, ap, ◌∙◌, arith}
 use Rattle.std.proofs.lemmas.Bool.{eqb-true}
 use Rattle.std.proofs.lemmas.Bool.Decides.{nat_tests}
 use Rattle.std.specs.declared.cmp.Ordering.{Ordering}
@@ -13,7 +13,6 @@ use Rattle.dx_io.specs.declared.row_key.RowKey.{RowKey}
 use Rattle.dx_io.specs.RowKeys.{row_cmp, row_total}
 use Rattle.dx_io.specs.Rows.{Rows}
 use Rattle.dx_codec.specs.Blocks.{block_bytes}
-use Rattle.dx_codec.specs.Genesis.{digest_of}
 use Rattle.dx_history.specs.Rows.{place_of}
 use Rattle.dx_history.specs.Chains.{row_at, AreRowsOf}
 

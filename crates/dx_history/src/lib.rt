@@ -3,9 +3,13 @@
 //! It stands on `dx_io` for the trait of a keeper and on `dx_codec` for the bytes of a block. [`keep_block`]
 //! sets one row, that of a node at the block's height, to the block's bytes. [`kept_block`] gives the block
 //! whose bytes a row has; `Bad` comes exactly where the row is missing or is no block's bytes. `Failed` comes
-//! only where the keeper's count of faults rose, and no call changes a row when it is refused. What the rows
-//! of a node say all together, a chain of blocks from a genesis or the first height at which they are none,
-//! is `specs/Chains.antt: kept`. Both calls take memory from the allocator of the block, or of the row.
+//! only where the keeper's count of faults rose, and no call changes a row when it is refused. Both calls take
+//! memory from the allocator of the block, or of the row.
+//!
+//! What the rows of a node say all together, a chain of blocks that are good from a genesis on or the first
+//! height at which they are none, is `specs/Chains.antt: kept`. Two laws stand beside it: a block that is set
+//! at the next height makes a chain's rows those of the longer chain ([`rows_grow`]), and the rows of a good
+//! chain are read as that chain ([`chain_is_kept`]).
 #![tactic(auto)]
 
 mod blocks;
@@ -16,4 +20,4 @@ mod tests;
 
 pub use blocks::{keep_block, kept_block};
 pub use fault::HistoryFault;
-pub use laws::rows_grow;
+pub use laws::{chain_is_kept, rows_grow};

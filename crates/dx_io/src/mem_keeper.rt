@@ -41,6 +41,20 @@ impl MemKeeper {
             plan: FaultPlan::new(fails),
         }
     }
+
+    /// A keeper of the same rows, whose calls are numbered anew from 1 and fail at the numbers of
+    /// `fails`. It takes no memory.
+    pub fn again(self, fails: Vec<u64>) -> MemKeeper
+        ensures again { result ≡ record { rows = self.rows; plan = fresh_plan fails.items } }
+        ensures rows { ⟦<MemKeeper as Keeper>⟧.rows result ≡ Some self.rows }
+        ensures faults { ⟦<MemKeeper as Keeper>⟧.faults result ≡ 0 }
+    {
+        let MemKeeper { keeper, plan: _ } = self;
+        MemKeeper {
+            keeper,
+            plan: FaultPlan::new(fails),
+        }
+    }
 }
 
 impl Keeper for MemKeeper {
