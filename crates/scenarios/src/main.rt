@@ -17,8 +17,8 @@
 
 mod gathered;
 
-use gathered::Gathered;
 use dx_types::NoMemory;
+use gathered::Gathered;
 use std::alloc::Global;
 use std::io::{self, Read, Write};
 
