@@ -21,8 +21,10 @@ const LONGEST_LINE: usize = 1_048_576;
 /// Why the next line is not known.
 #[derive(Clone, Copy, Debug, PartialEq, Eq, Error)]
 pub enum ReadError {
+    /// A read of the source failed. It comes only where the source's count of faults rose.
     #[error("the source failed")]
     Failed,
+    /// There was no memory to hold the line.
     #[error("no memory for the line")]
     NoMemory,
 }
@@ -97,6 +99,7 @@ fn ending(line: &Vec<u8>) -> Cut
 }
 
 impl LineReader {
+    /// Makes a reader that has read nothing yet: no byte is at hand.
     pub fn new() -> LineReader
         ensures { result ≡ [] }
     {

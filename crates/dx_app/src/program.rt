@@ -107,9 +107,20 @@ fn answer_all<S: Source, W: Sink>(alloc: Global, source: &mut S, sink: &mut W) -
     replay_lines(alloc, &mut cluster, &mut reader, source, sink)
 }
 
-/// Answers all lines of a source, as the scenario that they are.
+/// Answers each line of a source, the genesis line first and then the events, and says by which status the run ends
+/// ("Statuses" in docs/FORMAT.md). The keeper is not called yet.
 ///
-/// The keeper is not called yet.
+/// | status | when |
+/// |---|---|
+/// | `Done` | all lines, at most 1,000,000, were good and are answered, and the source is at its end |
+/// | `BadLine` | a line was bad, or there was none: the first bad line, from 1, and its wrong element, from 0 |
+/// | `Long` | a byte followed the 1,000,000th newline, and all lines before it were good |
+/// | `ReadFault` | a read failed; only where the source's count of faults rose |
+/// | `WriteFault` | a write failed; only where the sink's count of faults rose |
+/// | `NoMemory` | there was no memory |
+///
+/// Where the source tells its bytes, and the table gives them `Done`, `BadLine` or `Long`, the status is just that, or
+/// one of the last three. `Usage`, `KeptBad`, `KeptOther` and `KeepFault` never come.
 pub fn replay_all<S: Source, W: Sink, K: Keeper>(
     alloc: Global,
     source: &mut S,

@@ -10,8 +10,13 @@
 //! It stands on the definitions alone, and on no code that carries them out.
 #![tactic(auto)]
 
+/// Examples of positions that are closed for an account, by liquidation and by deleveraging.
 pub mod closings;
+/// An example of an hour of funding.
 pub mod funding;
+/// Laws of the definitions that a reader will look for.
 pub mod laws;
+/// Examples of blocks of messages.
 pub mod messages;
+/// Examples of orders, fills and fees.
 pub mod trades;

@@ -30,8 +30,9 @@ impl Model for Gen {
 }
 
 impl Gen {
-    /// The scenario of a seed and so many orders: 11 lines, one an order, and six behind each seventh
-    /// order. It takes no memory.
+    /// The scenario of a seed and of `events` orders ("The generator" in docs/RULES.md). It has 6 lines before the
+    /// first order, one line for each order, 6 more behind each seventh order, and 5 at the end: together
+    /// 11 + `events` + 6 · floor(`events` / 7). It takes no memory.
     pub fn new(seed: u64, events: u32) -> Gen
         ensures lines { result ≡ scenario_lines seed events }
         ensures count { length result ≡ 11 + events + 6 * (events / 7) }

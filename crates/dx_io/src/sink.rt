@@ -17,12 +17,12 @@ pub enum SinkError {
     NoMemory,
 }
 
-/// Where bytes go.
+/// A sink of bytes. Contracts tell by `written` which bytes a call appended, and by `faults` why it failed.
 pub trait Sink {
-    // The bytes that have been written, where the sink tells them.
+    /// The bytes that have been written, where the sink tells them.
     ghost written: { Self → Option (List ℕ) };
 
-    // How many faults there have been.
+    /// The count of faults, below 2^64. It never falls, and a write answers `Failed` only where it rose.
     ghost faults: { Self → ℕ };
 
     /// Appends bytes from the front of `piece`, and answers how many. The answer 0 for a piece

@@ -12,12 +12,12 @@ use thiserror::Error;
 #[error("a read from the outside failed")]
 pub struct Failed;
 
-/// Where bytes come from.
+/// A source of bytes. Contracts tell by `left` which bytes a call read, and by `faults` why it failed.
 pub trait Source {
-    // The bytes that have not been read yet, where the source tells them.
+    /// The bytes that have not been read yet, where the source tells them.
     ghost left: { Self → Option (List ℕ) };
 
-    // How many faults there have been.
+    /// The count of faults, below 2^64. It never falls, and a read fails only where it rose.
     ghost faults: { Self → ℕ };
 
     /// Reads into the front of `into`, and answers how many bytes. The answer 0 for a buffer that

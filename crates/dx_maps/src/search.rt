@@ -4,7 +4,7 @@ ghost use Rattle.dx_maps.specs.Tables.{map_of, first_passing};
 use crate::key::MapKey;
 use std::collections::BTreeMap;
 
-/// A test of entries.
+/// A test that the entries of a table pass or fail, each by its key and its value.
 pub trait EntryTest<K, V> {
     ghost use Rattle.std.specs.Prelude.{Bool};
 

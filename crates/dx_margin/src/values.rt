@@ -30,7 +30,9 @@ pub fn value(m: &MarketInfo, size: i64) -> i128
     )
 }
 
-/// What a size is worth, where that is in its bound.
+/// What a size is worth at the market's price ("Value" in docs/RULES.md): quote quantums, rounded down, negative for a
+/// short size. The size is in base quantums, of a magnitude below 2^48. The magnitude of the value, which is
+/// the result, has to be at most 2^56.
 pub fn bounded_value(m: &MarketInfo, size: i64) -> i128
     requires market { IsMarket m.now }
     requires size { unsigned_abs size < 2 ^ 48 }
@@ -53,7 +55,9 @@ pub fn quote(p: &MarketParams, subticks: u64, amount: u64) -> i128
     mul_pow10_floor(product(amount as i128, subticks as i128), p.conversion)
 }
 
-/// The initial requirement of a size: a share of the magnitude of its value, rounded up.
+/// The initial requirement of a size ("Margin" in docs/RULES.md): the market's `initial` ppm of the magnitude of its
+/// value, rounded up to quote quantums, from 0 to 2^56. The size is in base quantums, of a magnitude below 2^48, and
+/// the magnitude of its value has to be at most 2^56 quote quantums.
 #[tactic(auto, unfolding(dx_spec::specs::Margin::initial_margin))]
 pub fn initial_margin(m: &MarketInfo, size: i64) -> i128
     requires market { IsMarket m.now }
@@ -66,7 +70,9 @@ pub fn initial_margin(m: &MarketInfo, size: i64) -> i128
     ppm_up(magnitude(value(m, size)), m.params.initial)
 }
 
-/// The maintenance requirement of a size: a share of its initial requirement, rounded up.
+/// The maintenance requirement of a size ("Margin" in docs/RULES.md): the market's `maintenance` ppm of the initial
+/// requirement, rounded up to quote quantums, from 0 to 2^56. The size is in base quantums, of a magnitude below 2^48,
+/// and the magnitude of its value has to be at most 2^56 quote quantums.
 #[tactic(auto, unfolding(dx_spec::specs::Margin::maintenance_margin))]
 pub fn maintenance_margin(m: &MarketInfo, size: i64) -> i128
     requires market { IsMarket m.now }

@@ -6,7 +6,7 @@ ghost use Rattle.dx_match.specs.Seen.{seen};
 use dx_types::{List, Op, Order, OrderId, SubaccountId};
 use std::alloc::Global;
 
-/// What was taken of a book.
+/// What an order took from a book ("Taking" in docs/RULES.md), or what a sweep of an account took ("Sweep").
 #[derive(Debug, PartialEq, Eq, Drop)]
 pub struct Taken {
     /// The operations that the queue gets, in order.
@@ -17,9 +17,9 @@ pub struct Taken {
     pub filled: u64,
     /// How many fills there were.
     pub fills: u32,
-    /// How many offsets there were.
+    /// How many offsets there were; 0 for an order.
     pub offsets: u32,
-    /// The code that stopped it ("Codes of a block" in docs/RULES.md), or 0.
+    /// The code that stopped the order ("Codes of a block" in docs/RULES.md), or 0; 0 for a sweep.
     pub stop: u32,
 }
 

@@ -48,7 +48,20 @@ pub enum PlaceFault {
 }
 
 impl PlaceFault {
-    /// The refusal of the order ("Placing" in docs/RULES.md); none for `NoMemory`.
+    /// The refusal of the order, by its number ("Placing" in docs/RULES.md). `NoMemory` gives none. The refusal of
+    /// `Cancelled` has the height `until` as its value, and no other has a value.
+    ///
+    /// | fault | number |
+    /// |---|---|
+    /// | `BadOrder` | 1 |
+    /// | `TooFar` | 2 |
+    /// | `Expired` | 3 |
+    /// | `NotNewer` | 4 |
+    /// | `AlreadyFilled` | 5 |
+    /// | `Cancelled` | 6 |
+    /// | `PostOnlyCross` | 7 |
+    /// | `BookFull` | 8 |
+    /// | `QueueFull` | 9 |
     pub fn refusal(&self) -> Option<Refusal>
         ensures { result ≡ place_cause self.now }
     {
@@ -113,7 +126,14 @@ pub enum CancelFault {
 }
 
 impl CancelFault {
-    /// The refusal of the cancel ("Cancelling" in docs/RULES.md); none for `NoMemory`.
+    /// The refusal of the cancel, by its number ("Cancelling" in docs/RULES.md). `NoMemory` gives none. The refusal
+    /// of `NotNewer` has the height `kept` as its value, and no other has a value.
+    ///
+    /// | fault | number |
+    /// |---|---|
+    /// | `BadUntil` | 1 |
+    /// | `NotNewer` | 2 |
+    /// | `CancelsFull` | 3 |
     pub fn refusal(&self) -> Option<Refusal>
         ensures { result ≡ cancel_cause self.now }
     {
@@ -148,7 +168,12 @@ pub enum FeedFault {
 }
 
 impl FeedFault {
-    /// The refusal of the price ("Fed prices" in docs/RULES.md).
+    /// The refusal of the price, by its number ("Fed prices" in docs/RULES.md).
+    ///
+    /// | fault | number |
+    /// |---|---|
+    /// | `NoMarket` | 1 |
+    /// | `BadPrice` | 2 |
     pub fn refusal(&self) -> Refusal
         ensures { result ≡ feed_cause self.now }
     {
@@ -174,7 +199,12 @@ pub enum ProposeFault {
 }
 
 impl ProposeFault {
-    /// The refusal of the proposal ("Proposal" in docs/RULES.md); none for `NoMemory`.
+    /// The refusal of the proposal, by its number ("Proposal" in docs/RULES.md). `NoMemory` gives none.
+    ///
+    /// | fault | number |
+    /// |---|---|
+    /// | `WrongTime` | 1 |
+    /// | `LastHeight` | 2 |
     pub fn refusal(&self) -> Option<Refusal>
         ensures { result ≡ propose_cause self.now }
     {
@@ -196,7 +226,7 @@ impl From<NoMemory> for ProposeFault {
     }
 }
 
-/// Why a message does not wait for a proposal ("What a node keeps" in docs/RULES.md).
+/// Why a message does not wait for a proposal ("Message pool" in docs/RULES.md).
 #[derive(Clone, Copy, Debug, PartialEq, Eq, Error)]
 pub enum MessageFault {
     /// 256 messages wait.
@@ -208,7 +238,11 @@ pub enum MessageFault {
 }
 
 impl MessageFault {
-    /// The refusal of the message ("What a node keeps" in docs/RULES.md); none for `NoMemory`.
+    /// The refusal of the message, by its number ("Message pool" in docs/RULES.md). `NoMemory` gives none.
+    ///
+    /// | fault | number |
+    /// |---|---|
+    /// | `PoolFull` | 1 |
     pub fn refusal(&self) -> Option<Refusal>
         ensures { result ≡ message_cause self.now }
     {
@@ -241,7 +275,11 @@ pub enum SweepFault {
 }
 
 impl SweepFault {
-    /// The refusal of the sweep ("Sweep" in docs/RULES.md); none for `NoMemory`.
+    /// The refusal of the sweep, by its number ("Sweep" in docs/RULES.md). `NoMemory` gives none.
+    ///
+    /// | fault | number |
+    /// |---|---|
+    /// | `QueueFull` | 9 |
     pub fn refusal(&self) -> Option<Refusal>
         ensures { result ≡ sweep_cause self.now }
     {

@@ -2,7 +2,7 @@
 
 ghost use Rattle.std.specs.Prelude.{◌≡◌, ◌<◌, ◌≤◌, ◌+◌, ◌*◌, ◌^◌, ◌+ℤ◌, ◌-ℤ◌, ◌*ℤ◌, pos, neg_ℤ, unsigned_abs};
 
-/// The product, where the magnitudes show that it fits.
+/// `a` times `b`, exactly. The product of both magnitudes has to be below 2^127; it is the magnitude of the result.
 pub fn product(a: i128, b: i128) -> i128
     requires { unsigned_abs a * unsigned_abs b < 2 ^ 127 }
     ensures value { result ≡ a *ℤ b }
@@ -11,7 +11,8 @@ pub fn product(a: i128, b: i128) -> i128
     a * b
 }
 
-/// The sum, where the magnitudes show that it fits.
+/// `a` plus `b`, exactly. The sum of both magnitudes has to be below 2^127; the magnitude of the result is at most
+/// that sum.
 pub fn total(a: i128, b: i128) -> i128
     requires { unsigned_abs a + unsigned_abs b < 2 ^ 127 }
     ensures value { result ≡ a +ℤ b }
@@ -20,7 +21,8 @@ pub fn total(a: i128, b: i128) -> i128
     a + b
 }
 
-/// The difference, where the magnitudes show that it fits.
+/// `a` less `b`, exactly. The sum of both magnitudes has to be below 2^127; the magnitude of the result is at most
+/// that sum.
 pub fn difference(a: i128, b: i128) -> i128
     requires { unsigned_abs a + unsigned_abs b < 2 ^ 127 }
     ensures value { result ≡ a -ℤ b }
@@ -29,7 +31,7 @@ pub fn difference(a: i128, b: i128) -> i128
     a - b
 }
 
-/// The number with its sign turned: every `i128` but the least has one.
+/// `a` with its sign turned, and of the same magnitude, which has to be below 2^127: `a` is any `i128` but the least.
 pub fn negative(a: i128) -> i128
     requires { unsigned_abs a < 2 ^ 127 }
     ensures value { result ≡ neg_ℤ a }
@@ -38,7 +40,7 @@ pub fn negative(a: i128) -> i128
     -a
 }
 
-/// The number without its sign: every `i128` but the least has one.
+/// The magnitude of `a`, which has to be below 2^127: `a` is any `i128` but the least.
 pub fn magnitude(a: i128) -> i128
     requires { unsigned_abs a < 2 ^ 127 }
     ensures value { result ≡ pos (unsigned_abs a) }

@@ -14,9 +14,13 @@
 //! definitions, and call any function here alone. The lemmas of `proofs/` serve the proofs of the crates above.
 #![tactic(auto)]
 
+/// Exact products, sums, differences and magnitudes of numbers of 128 bits.
 pub mod arithmetic;
+/// Quotients by a positive number, rounded down, up and toward zero.
 pub mod division;
+/// The laws that pin the definitions of rounding.
 pub mod laws;
+/// Powers of ten and parts per million.
 pub mod scaling;
 #[cfg(test)]
 mod tests;

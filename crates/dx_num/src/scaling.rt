@@ -6,7 +6,7 @@ ghost use Rattle.dx_num.specs.Rounding.{floor_ten, ppm_up as parts_up};
 use super::arithmetic::product;
 use super::division::{ceil_div, floor_div};
 
-/// The power of ten of `n`, which is at most 18.
+/// Ten to the power `n`, a positive number. `n` has to be at most 18.
 #[tactic(auto, using(crate::proofs::Products::ten_positive))]
 pub fn power_of_ten(n: u32) -> i128
     requires { n ≤ 18 }
@@ -16,7 +16,8 @@ pub fn power_of_ten(n: u32) -> i128
     10u64.pow(n) as i128
 }
 
-/// `a` times the power of ten of `e`, rounded down.
+/// `a` times ten to the power `e`, rounded down ("Rounding" in docs/RULES.md). The magnitude of `a` has to be below
+/// 2^96, and `e` from −18 to 6.
 pub fn mul_pow10_floor(a: i128, e: i32) -> i128
     requires small { unsigned_abs a < 2 ^ 96 }
     requires least { negsuc 17 ≤ℤ e }
@@ -30,7 +31,8 @@ pub fn mul_pow10_floor(a: i128, e: i32) -> i128
     }
 }
 
-/// `ppm` parts per million of `v`, rounded up.
+/// `ppm` parts per million of `v`, rounded up ("Rounding" in docs/RULES.md). `v` has to be from 0 to 2^62 − 1, and
+/// `ppm` at most 1,000,000; the result is from 0 to `v`.
 #[tactic(auto, using(crate::proofs::Products::ppm_up_least, crate::proofs::Products::ppm_up_most), unfolding(crate::specs::Rounding::ppm_up))]
 pub fn ppm_up(v: i128, ppm: u32) -> i128
     requires not_negative { pos 0 ≤ℤ v }

@@ -29,7 +29,7 @@ pub fn block_moves_on()
     ensures { BlockMovesOn }
 {}
 
-/// A block keeps a state that is sound and balanced so.
+/// A block that is not refused keeps a state sound and balanced, where the state is both.
 pub fn block_keeps_sound_and_balance()
     ensures { BlockKeepsBoth }
 {}
@@ -54,43 +54,48 @@ pub fn settle_keeps_within()
     ensures { SettleKeepsWithin }
 {}
 
-/// A fill of two orders that may be filled does.
+/// A fill of two orders that may be filled keeps a state sound in the middle of a block, and its orders fillable.
 pub fn fill_keeps_within()
     ensures { FillKeepsWithin }
 {}
 
-/// A fill of a liquidation does, against a maker that may be filled; that the liquidated account is kept is
-/// among the step's own tests.
+/// A fill of a liquidation, against a maker that may be filled, keeps a state sound in the middle of a block, and its
+/// orders fillable. That the liquidated account is kept is among the step's own tests.
 pub fn liquidation_keeps_within()
     ensures { LiquidationKeepsWithin }
 {}
 
-/// An offset of a deleveraging does; that both accounts are kept is among the step's own tests.
+/// An offset of a deleveraging keeps a state sound in the middle of a block, and its orders fillable. That both
+/// accounts are kept is among the step's own tests.
 pub fn offset_keeps_within()
     ensures { OffsetKeepsWithin }
 {}
 
-/// An operation of a later block does, and the orders that the block has placed stay fillable.
+/// An operation at a greater height than the state's keeps the state sound in the middle of a block. The orders that
+/// the block has placed are short-term ones that may be filled, and stay so.
 pub fn operation_keeps_within()
     ensures { OperationKeepsWithin }
 {}
 
-/// All operations of a later block do.
+/// All operations of a block, at a greater height than the state's, keep the state sound in the middle of the block.
 pub fn operations_keep_within()
     ensures { OperationsKeepWithin }
 {}
 
-/// A message does, at no earlier time: less than 2^60 quote quantums more are paid in, or out.
+/// A message, at no earlier time than the state's, keeps the state sound in the middle of a block. The bound on what
+/// was paid in and on what was paid out rises by 2^60 quote quantums.
 pub fn message_keeps_within()
     ensures { MessageKeepsWithin }
 {}
 
-/// Votes do, one for a market at most, and leave room.
+/// Votes, at most one for a market and by rising market, keep a state sound in the middle of a block, and leave the
+/// room that there is for votes for the markets above theirs.
 pub fn votes_keep_within()
     ensures { VotesKeepWithin }
 {}
 
-/// Prices do.
+/// New prices of markets keep a state sound in the middle of a block, and change neither its clock nor its votes and
+/// samples.
 pub fn prices_keep_within()
     ensures { PricesKeepWithin }
 {}

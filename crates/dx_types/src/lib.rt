@@ -15,6 +15,7 @@
 mod accounts;
 mod copies;
 mod keys;
+/// The limits of the rules ("Limits" in docs/RULES.md), as constants that code tests by.
 pub mod limits;
 mod list;
 mod markets;
