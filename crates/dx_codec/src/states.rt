@@ -28,10 +28,12 @@ use std::alloc::Global;
 /// The first byte of a state.
 const STATE_FORM: u8 = 1;
 
-/// The bytes of a state, behind the digest of its own genesis. `NoMemory` where there is none for them.
+/// The bytes of a state, behind the digest of its own genesis. The names of a state that is written fit, as
+/// [`decode_state`] wants them to. `NoMemory` where there is none for the bytes.
 #[tactic(auto, unfolding(crate::specs::States::state_bytes))]
 pub fn encode_state(alloc: Global, s: &PlainState) -> Result<List<u8>, NoMemory>
-    ensures { IfOk result (λ bytes. bytes ≡ state_bytes s.now) }
+    ensures bytes { IfOk result (λ bytes. bytes ≡ state_bytes s.now) }
+    ensures fits { OnOk result (FitsNames s.now) }
 {
     let rows = collected(alloc, s)?;
     let digest = genesis_digest(alloc, s.genesis())?;

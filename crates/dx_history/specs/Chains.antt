@@ -1,15 +1,16 @@
 -- Which chain of blocks the rows of a node are.
-use Rattle.std.specs.Prelude.{◌≡◌, ℕ, zero, suc, ◌+◌, ◌-◌, ◌==◌, List, [], ◌∷◌, length, Option, Some, None, Result, Ok, Err, if◌then◌else◌, ok_or, option_map, slice_get}
+use Rattle.std.specs.Prelude.{◌≡◌, ℕ, IsOk, zero, suc, ◌+◌, ◌-◌, ◌==◌, List, [], ◌∷◌, length, Option, Some, None, Result, Ok, Err, if◌then◌else◌, ok_or, option_map, slice_get}
 use Rattle.std.specs.Str.{bytes_eq}
+use Rattle.std.specs.List.{AllByRecursion}
 use Rattle.std.specs.FinMap as map
 use Rattle.dx_types.specs.declared.Block.{Block}
 use Rattle.dx_types.specs.declared.Genesis.{Genesis}
 use Rattle.dx_types.specs.declared.Bad.{Bad}
 use Rattle.dx_spec.specs.Step.{◌>>=◌}
 use Rattle.dx_spec.specs.State.{State, genesis_state}
-use Rattle.dx_spec.specs.Blocks.{block_step}
+use Rattle.dx_spec.specs.Blocks.{block_step, fold_blocks}
 use Rattle.dx_io.specs.Rows.{Rows, row_count}
-use Rattle.dx_codec.specs.Blocks.{block_bytes}
+use Rattle.dx_codec.specs.Blocks.{block_bytes, FitsBlock}
 use Rattle.dx_codec.specs.Genesis.{digest_of}
 use Rattle.dx_history.specs.Rows.{place_of, block_at}
 
@@ -66,3 +67,18 @@ unfoldable pub kept : Genesis → Rows → ℕ → Result (List Block) Unkept
 kept g rows node =
     if row_count rows node == 0 then Ok []
     else first_of (first_fault g (map.get rows (place_of node 0))) (kept_from (genesis_state g) rows node 1 (row_count rows node - 1))
+
+-- the rows behind a start: a node that had none has the digest of its genesis as its first row
+abbrev pub begun : Rows → ℕ → Genesis → Rows
+begun rows node g = if row_count rows node == 0 then map.insert rows (place_of node 0) (digest_of g) else rows
+
+-- the rows of a node are just those of a chain of blocks that are good from a genesis on and have bytes
+pub record IsChain (rows : Rows) (node : ℕ) (g : Genesis) (bs : List Block) : Type 0 where
+  -- its rows are just those
+  pub rows : AreRowsOf rows node g bs
+  -- so many are counted
+  pub count : row_count rows node ≡ length bs + 1
+  -- each block is that of its bytes alone
+  pub fits : AllByRecursion FitsBlock bs
+  -- all are good
+  pub good : IsOk (fold_blocks g bs)

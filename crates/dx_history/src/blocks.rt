@@ -16,7 +16,7 @@ use dx_types::Block;
 use std::alloc::Global;
 
 /// Sets the row of a node at the block's height to the block's bytes, and leaves all other rows. All memory
-/// for the bytes is taken before the keeper is called.
+/// for the bytes is taken before the keeper is called. A block whose row is set is the one of its bytes.
 ///
 /// # Errors
 /// `Failed` only where the keeper's count of faults rose, and `NoMemory` where there is none for the bytes or
@@ -25,6 +25,7 @@ use std::alloc::Global;
 pub fn keep_block<K: Keeper>(keeper: &mut K, node: u32, block: &Block) -> Result<(), KeepError>
     ensures set { OnOk result (SetsRow (K.rows keeper.old) (K.rows keeper.new)
         (place_of node block.now.height) (block_bytes block.now)) }
+    ensures fits { OnOk result (FitsBlock block.now) }
     ensures err { OnErr result (SameRows (K.rows keeper.old) (K.rows keeper.new)) }
     ensures later { K.faults keeper.old ≤ K.faults keeper.new }
     ensures failed { IsErrOf result KeepError.Failed → Rose (K.faults keeper.old) (K.faults keeper.new) }

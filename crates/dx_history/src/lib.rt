@@ -20,4 +20,4 @@ mod tests;
 
 pub use blocks::{keep_block, kept_block};
 pub use fault::HistoryFault;
-pub use laws::{chain_is_kept, rows_grow};
+pub use laws::{chain_grows, chain_is_kept, kept_is_chain, others_stay, rows_grow};
