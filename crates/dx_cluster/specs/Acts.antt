@@ -14,8 +14,10 @@ use Rattle.dx_node_spec.specs.Refusals.{unknown_market}
 use Rattle.dx_node_spec.specs.Node.{Node, committed}
 use Rattle.dx_node_spec.specs.Placing.{Outcome, AllFilled, Rested, Dropped, Stopped, Refusal, refusal, place}
 use Rattle.dx_node_spec.specs.Events.{fed, pooled, cancel, cancel_all, sweep}
-use Rattle.dx_node_spec.specs.Commits.{commit, placed_again}
+use Rattle.dx_node_spec.specs.Commits.{commit, restarted, placed_again}
 use Rattle.dx_node_spec.specs.Reads as tells
+use Rattle.dx_codec.specs.Blocks.{block_bytes}
+use Rattle.dx_node.specs.Restarts.{committed_digest}
 use Rattle.dx_print.specs.declared.answer.Answer.{Answer}
 use Rattle.dx_print.specs.declared.answer.Answer.TheVariants as answers
 
@@ -136,3 +138,20 @@ tell_best market p = (p, best_answer (tells.best_prices p market))
 -- a node tells the numbers of its committed state
 abbrev pub tell_audit : Node → Node × Answer
 tell_audit p = (p, answers.Audit (audit (committed p)))
+
+-- the bytes of the block of a slot
+abbrev pub show_slot : Option Block → Answer
+show_slot None = answers.Empty
+show_slot (Some b) = answers.Bytes (block_bytes b)
+
+-- a node tells the digest of its committed state
+abbrev pub tell_digest : Node → Node × Answer
+tell_digest p = (p, answers.Digest (height_of p) (committed_digest p))
+
+-- a node that starts anew from these blocks, and places its stateful orders again
+abbrev pub started : Node → List Block → Node
+started p blocks = placed_again (restarted p blocks)
+
+-- a node starts anew from its own blocks, which are what is kept of it, and tells its height
+abbrev pub restart_node : Node → Node × Answer
+restart_node p = (started p p.blocks, answers.Done (Some (height_of (restarted p p.blocks))))

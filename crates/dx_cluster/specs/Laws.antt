@@ -1,6 +1,6 @@
 -- What holds in every world.
-use Rattle.std.specs.Prelude.{◌≡◌, ◌⊎◌, ⊤, ℕ, Bool, true, false, IsTrue, List, [], ◌∷◌, map, Option, Some, None, Result, Ok, Err, All}
-use Rattle.std.specs.FinMap.{get}
+use Rattle.std.specs.Prelude.{◌≡◌, ◌⊎◌, ⊤, ℕ, Bool, true, false, IsTrue, List, [], ◌∷◌, map, length, Option, Some, None, Result, Ok, Err, All}
+use Rattle.std.specs.FinMap.{get, empty}
 use Rattle.dx_types.specs.declared.Genesis.{Genesis}
 use Rattle.dx_types.specs.declared.Order.{Order}
 use Rattle.dx_types.specs.declared.OrderId.{OrderId}
@@ -15,7 +15,8 @@ use Rattle.dx_spec.specs.Balance.{Sound, Balanced}
 use Rattle.dx_spec.specs.Audits.{audit}
 use Rattle.dx_laws.specs.Laws.{IsAuditBalanced}
 use Rattle.dx_sound.specs.Within.{SoundWithin, most_paid}
-use Rattle.dx_node_spec.specs.Node.{Node, committed, speculative}
+use Rattle.dx_io.specs.Rows.{Rows}
+use Rattle.dx_node_spec.specs.Node.{Node, new_node, committed, speculative}
 use Rattle.dx_speculation.specs.Faithful.{IsFaithful, IsGoodBlock}
 use Rattle.dx_node_spec.specs.Proposals.{propose}
 use Rattle.dx_scenario.specs.declared.event.Event.{Event}
@@ -23,17 +24,20 @@ use Rattle.dx_scenario.specs.declared.event.Event.TheVariants as events
 use Rattle.dx_print.specs.declared.answer.Answer.{Answer}
 use Rattle.dx_print.specs.declared.answer.Answer.TheVariants as answers
 use Rattle.dx_cluster.specs.Stored.{Stored}
-use Rattle.dx_cluster.specs.Acts.{place_order}
-use Rattle.dx_cluster.specs.World.{World, world_of, step}
+use Rattle.dx_history.specs.Chains.{AreRowsOf}
+use Rattle.dx_cluster.specs.Acts.{place_order, started}
+use Rattle.dx_cluster.specs.World.{World, KeepsRows, opened, step}
 
 -- the committed state of a node is the plain fold of its blocks from its genesis on, and all of them are good
 pub record IsFold (p : Node) : Type 0 where
   pub base : p.base ≡ genesis_state p.genesis
   pub folded : fold_blocks p.genesis p.blocks ≡ Ok (committed p)
 
--- each node's is so at first, and whatever happens
+-- each node's is so where it starts from the chain of its rows, and whatever happens
 abbrev pub FoldsStayGood : Type 0
-FoldsStayGood = ((nodes : ℕ) (g : Genesis) → All IsFold (world_of nodes g).nodes) × ((w : World) (event : Event) → All IsFold w.nodes → All IsFold (step w event).0.nodes)
+FoldsStayGood =
+    ((count : ℕ) (g : Genesis) (rows : Rows) (w : World) → opened count g rows ≡ Ok w → All IsFold w.nodes)
+    × ((w : World) (event : Event) → All IsFold w.nodes → All IsFold (step w event).0.nodes)
 
 -- the state to which a step led, or the one before it where the block was bad
 abbrev pub state_or : State → Result (State × List ℕ) Bad → State
@@ -61,6 +65,9 @@ is_of_committed (events.Check node slot) = true
 is_of_committed (events.Commit node slot) = true
 is_of_committed (events.Balance node who) = true
 is_of_committed (events.Audit node) = true
+is_of_committed (events.Show slot) = true
+is_of_committed (events.Digest node) = true
+is_of_committed (events.Restart node) = true
 is_of_committed event = false
 
 -- two worlds have the same committed states and the same blocks in their slots, whatever else their nodes hold
@@ -91,15 +98,24 @@ abbrev pub after : World → List Event → World
 after w [] = w
 after w (event ∷ events) = after (step w event).0 events
 
+-- a world that a scenario reaches: nodes of a genesis start from the chains of their rows, and then events happen
+pub record IsReached (g : Genesis) (w : World) : Type 0 where
+  pub count : ℕ
+  pub rows : Rows
+  pub start : World
+  pub opened : opened count g rows ≡ Ok start
+  pub events : List Event
+  pub after : w ≡ after start events
+
 -- a state is sound and balanced, and the numbers of its audit balance
 pub record IsInBalance (s : State) : Type 0 where
   pub sound : Sound s
   pub balanced : Balanced s
   pub audit : IsAuditBalanced (audit s)
 
--- each node's committed state is, in every world that a scenario reaches from nodes of a genesis in its ranges on
+-- each node's committed state is, in every world that a scenario over a genesis in its ranges reaches
 abbrev pub StatesBalance : Type 0
-StatesBalance = (nodes : ℕ) (g : Genesis) (es : List Event) → IsGenesis g → All (λ p. IsInBalance (committed p)) (after (world_of nodes g) es).nodes
+StatesBalance = (g : Genesis) (w : World) → IsGenesis g → IsReached g w → All (λ p. IsInBalance (committed p)) w.nodes
 
 -- a node's blocks and its queue are good, so that neither of its states comes from a default, and its speculative state is sound and balanced
 pub record IsInOrder (p : Node) : Type 0 where
@@ -109,7 +125,7 @@ pub record IsInOrder (p : Node) : Type 0 where
 
 -- each node is so, in every such world
 abbrev pub NodesAreInOrder : Type 0
-NodesAreInOrder = (nodes : ℕ) (g : Genesis) (es : List Event) → IsGenesis g → All IsInOrder (after (world_of nodes g) es).nodes
+NodesAreInOrder = (g : Genesis) (w : World) → IsGenesis g → IsReached g w → All IsInOrder w.nodes
 
 -- an answer names no code that stopped a placing but that of the taker's risk and that of a bound
 abbrev pub StopsByRisk : Answer → Type 0
@@ -118,7 +134,7 @@ StopsByRisk answer = ⊤
 
 -- no placing is answered with another, in every such world
 abbrev pub PlacingsStopByRisk : Type 0
-PlacingsStopByRisk = (nodes : ℕ) (g : Genesis) (es : List Event) → IsGenesis g → All (λ p. (o : Order) → StopsByRisk (place_order o p).1) (after (world_of nodes g) es).nodes
+PlacingsStopByRisk = (g : Genesis) (w : World) → IsGenesis g → IsReached g w → All (λ p. (o : Order) → StopsByRisk (place_order o p).1) w.nodes
 
 -- what a node proposes is good on its committed state
 abbrev pub ProposesGood : Node → Type 0
@@ -126,4 +142,22 @@ ProposesGood p = (time : ℕ) (b : Block) → propose p time ≡ Ok b → IsGood
 
 -- each node does so, in every such world
 abbrev pub ProposalsAreGood : Type 0
-ProposalsAreGood = (nodes : ℕ) (g : Genesis) (es : List Event) → IsGenesis g → All ProposesGood (after (world_of nodes g) es).nodes
+ProposalsAreGood = (g : Genesis) (w : World) → IsGenesis g → IsReached g w → All ProposesGood w.nodes
+
+-- the rows of each node are just those of its blocks, in every such world
+abbrev pub RowsAreOfBlocks : Type 0
+RowsAreOfBlocks = (g : Genesis) (w : World) → IsGenesis g → IsReached g w
+    → All (λ p. AreRowsOf w.rows p.number p.genesis p.blocks) w.nodes
+
+-- the world from which the next run goes on: each node has its blocks and its stateful orders, and nothing else
+abbrev pub next_world : World → World
+next_world w = record {
+  nodes = map (λ p. started (new_node p.number p.genesis) p.blocks) w.nodes;
+  slots = empty;
+  rows = w.rows;
+}
+
+-- so many nodes of the same genesis, started from the rows that a run leaves, are just those
+abbrev pub NextRunGoesOn : Type 0
+NextRunGoesOn = (g : Genesis) (w : World) → KeepsRows (Some w.rows) w → All (λ p. p.genesis ≡ g) w.nodes
+    → opened (length w.nodes) g w.rows ≡ Ok (next_world w)

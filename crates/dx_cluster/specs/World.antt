@@ -1,11 +1,19 @@
--- All nodes and slots, and what an event does.
-use Rattle.std.specs.Prelude.{◌≡◌, ℕ, List, [], map, length, sum_by, Option, Some, None, Result, Ok, Err, slice_get, slice_set, All}
+-- All nodes, slots and kept rows, and what an event does.
+use Rattle.std.specs.Prelude.{◌≡◌, ℕ, List, [], ◌∷◌, map, fold, length, sum_by, Option, Some, None, Result, Ok, Err, slice_get, slice_set, All}
 use Rattle.std.specs.List.{AllZip, range_with_len}
 use Rattle.std.specs.FinMap.{get, insert, empty}
 use Rattle.dx_types.specs.declared.Block.{Block}
+use Rattle.dx_types.specs.declared.Bad.{Bad}
 use Rattle.dx_types.specs.declared.Genesis.{Genesis}
+use Rattle.dx_io.specs.Rows.{Rows}
+use Rattle.dx_spec.specs.Step.{◌>>=◌}
 use Rattle.dx_spec.specs.Blocks.{fills_in}
+use Rattle.dx_codec.specs.Blocks.{block_bytes}
+use Rattle.dx_history.specs.Rows.{place_of}
+use Rattle.dx_codec.specs.Genesis.{digest_of}
+use Rattle.dx_history.specs.Chains.{Unkept, BadAt, OtherGenesis, IsChain, kept, begun}
 use Rattle.dx_node_spec.specs.Node.{Node, new_node}
+use Rattle.dx_node_spec.specs.Commits.{commit}
 use Rattle.dx_node_spec.specs.Placing.{Refusal}
 use Rattle.dx_node.specs.Held.{Held}
 use Rattle.dx_node_spec.specs.Proposals.{propose}
@@ -18,17 +26,40 @@ use Rattle.dx_print.specs.declared.replies.Reply.{Reply}
 use Rattle.dx_print.specs.declared.answer.Answer.{Answer}
 use Rattle.dx_print.specs.declared.answer.Answer.TheVariants as answers
 use Rattle.dx_cluster.specs.declared.cluster.Cluster.{Cluster}
+use Rattle.dx_cluster.specs.declared.fault.StartFault.{StartFault}
+use Rattle.dx_cluster.specs.declared.fault.StartFault.TheVariants as starts
 use Rattle.dx_cluster.specs.Stored.{Stored}
-use Rattle.dx_cluster.specs.Acts.{height_of, refused, place_order, cancel_order, cancel_orders, feed_price, pool_message, sweep_account, check_slot, commit_slot, tell_balance, tell_speculative, tell_filled, tell_best, tell_audit}
+use Rattle.dx_cluster.specs.Acts.{height_of, refused, place_order, cancel_order, cancel_orders, feed_price, pool_message, sweep_account, check_slot, show_slot, commit_slot, restart_node, started, tell_balance, tell_speculative, tell_filled, tell_best, tell_audit, tell_digest}
 
--- the nodes by number, and the blocks in the slots
+-- the nodes by number, the blocks in the slots, and the kept rows
 pub record World : Type 0 where
   pub nodes : List Node
   pub slots : Stored
+  pub rows : Rows
 
--- so many nodes of one genesis, numbered from 0, and no slot filled
-abbrev pub world_of : ℕ → Genesis → World
-world_of nodes g = record { nodes = map (λ number. new_node number g) (range_with_len 0 nodes); slots = empty }
+-- a node of a genesis that starts from the chain of its rows; or its number, and why they are none
+abbrev pub node_of : Genesis → ℕ → Result (List Block) Unkept → Result Node (ℕ × Unkept)
+node_of g number (Ok blocks) = Ok (started (new_node number g) blocks)
+node_of g number (Err unkept) = Err (number, unkept)
+
+-- nodes of these numbers, in order, each of which starts from the chain of its rows
+abbrev pub nodes_of : Genesis → Rows → List ℕ → Result (List Node) (ℕ × Unkept)
+nodes_of g rows [] = Ok []
+nodes_of g rows (number ∷ numbers) = do
+  p ← node_of g number (kept g rows number)
+  ps ← nodes_of g rows numbers
+  Ok (p ∷ ps)
+
+-- the rows behind their starts
+abbrev pub begun_all : Genesis → Rows → List ℕ → Rows
+begun_all g rows numbers = fold (λ before number. begun before number g) rows numbers
+
+-- so many nodes of one genesis, numbered from 0, each of which starts from the chain of its rows, and no slot filled;
+-- or the first node whose rows are no chain of the genesis, and why
+abbrev pub opened : ℕ → Genesis → Rows → Result World (ℕ × Unkept)
+opened count g rows =
+    let numbers = range_with_len 0 count in
+    nodes_of g rows numbers >>= λ ps. Ok (record { nodes = ps; slots = empty; rows = begun_all g rows numbers })
 
 -- the answer to the first line: the height of each node
 abbrev pub heights : World → Answer
@@ -42,6 +73,23 @@ node_acts w (Some p) node act = (record w { nodes = slice_set w.nodes node (act 
 -- the same by the node's number
 abbrev pub act_at : World → ℕ → (Node → Node × Answer) → World × Answer
 act_at w node act = node_acts w (slice_get w.nodes node) node act
+
+-- the rows behind a block that a node commits: where it is good its bytes stand at its height among those of the node
+abbrev pub rows_with : Rows → ℕ → Block → Result (Node × List ℕ) Bad → Rows
+rows_with rows number b (Ok committed) = insert rows (place_of number b.height) (block_bytes b)
+rows_with rows number b (Err bad) = rows
+
+-- the same of the block of a slot, where there is one and there is such a node
+abbrev pub rows_behind : Rows → Option Node → Option Block → Rows
+rows_behind rows None slot = rows
+rows_behind rows (Some p) None = rows
+rows_behind rows (Some p) (Some b) = rows_with rows p.number b (commit p b)
+
+-- a node commits the block of a slot, and it is kept
+abbrev pub commit_at : World → ℕ → ℕ → World × Answer
+commit_at w node slot =
+    let r = act_at w node (commit_slot (get w.slots slot)) in
+    (record r.0 { rows = rows_behind w.rows (slice_get w.nodes node) (get w.slots slot) }, r.1)
 
 -- what is told of a proposal: its height, and how many operations, fills and offsets, messages, votes and prices it has
 abbrev pub proposed : Block → Answer
@@ -61,10 +109,6 @@ node_proposes w (Some p) slot time = put_proposal w slot (propose p time)
 abbrev pub propose_at : World → ℕ → ℕ → ℕ → World × Answer
 propose_at w node slot time = node_proposes w (slice_get w.nodes node) slot time
 
--- an event that is not built is in no transcript: it does nothing
-abbrev pub unanswered : World → World × Answer
-unanswered w = (w, answers.Absent)
-
 -- all nodes and slots after an event, and the answer to it
 abbrev pub acted : World → Event → World × Answer
 acted w (events.Place node order) = act_at w node (place_order order)
@@ -75,16 +119,16 @@ acted w (events.Feed node market price) = act_at w node (feed_price market price
 acted w (events.Sweep node who) = act_at w node (sweep_account who)
 acted w (events.Propose node slot time) = propose_at w node slot time
 acted w (events.Handed slot b) = (record w { slots = insert w.slots slot b }, answers.Done None)
-acted w (events.Show slot) = unanswered w
+acted w (events.Show slot) = (w, show_slot (get w.slots slot))
 acted w (events.Check node slot) = act_at w node (check_slot (get w.slots slot))
-acted w (events.Commit node slot) = act_at w node (commit_slot (get w.slots slot))
+acted w (events.Commit node slot) = commit_at w node slot
 acted w (events.Balance node who) = act_at w node (tell_balance who)
 acted w (events.Spec node who) = act_at w node (tell_speculative who)
 acted w (events.Filled node id) = act_at w node (tell_filled id)
 acted w (events.Best node market) = act_at w node (tell_best market)
 acted w (events.Audit node) = act_at w node tell_audit
-acted w (events.Digest node) = unanswered w
-acted w (events.Restart node) = unanswered w
+acted w (events.Digest node) = act_at w node tell_digest
+acted w (events.Restart node) = act_at w node restart_node
 
 -- the answer behind the event's word
 abbrev pub replied : Word → World × Answer → World × Reply
@@ -104,6 +148,15 @@ pub record Stands (c : Cluster) (w : World) : Type 0 where
   pub slots : c.slots ≡ w.slots
   pub idle : All IsIdle w.nodes
 
+-- the keeper's rows are those of the world, in which those of each node are just those of its blocks
+pub record KeepsRows (rows : Option Rows) (w : World) : Type 0 where
+  -- it tells the rows of the world
+  pub told : rows ≡ Some w.rows
+  -- the nodes are numbered from 0
+  pub numbered : map (λ p. p.number) w.nodes ≡ range_with_len 0 (length w.nodes)
+  -- a node's rows are those of its blocks
+  pub chains : All (λ p. IsChain w.rows p.number p.genesis p.blocks) w.nodes
+
 -- there are nodes and slots that it stands for
 abbrev pub StandsForSome : Cluster → Type 0
 StandsForSome c = (w : World) × Stands c w
@@ -121,3 +174,25 @@ pub record HasActed (r : World × Answer) (after : Cluster) (answer : Answer) : 
 pub record IsDone (r : World × Reply) (after : Cluster) (reply : Reply) : Type 0 where
   pub replied : reply ≡ r.1
   pub stands : Stands after r.0
+
+-- the nodes are started as is told: the program holds them, and the keeper the rows behind their starts
+abbrev pub Opens : Result World (ℕ × Unkept) → Cluster → Option Rows → Type 0
+Opens (Ok w) c rows = Stands c w × KeepsRows rows w
+Opens (Err unkept) c rows = ⊥
+
+-- the rows are those behind the starts of so many nodes
+abbrev pub IsBegun : ℕ → Genesis → Rows → Option Rows → Type 0
+IsBegun count g before rows = rows ≡ Some (begun_all g before (range_with_len 0 count))
+
+-- the nodes are not started, for the fault: where the rows of a node are no chain, just those before it are
+abbrev pub OpenRefused : Result World (ℕ × Unkept) → Genesis → Rows → Option Rows → StartFault → Type 0
+OpenRefused step g before rows (starts.KeptBad node height) = (step ≡ Err (node, BadAt height)) × IsBegun node g before rows
+OpenRefused step g before rows (starts.KeptOther node theirs ours) =
+    (step ≡ Err (node, OtherGenesis theirs)) × (ours ≡ digest_of g) × IsBegun node g before rows
+OpenRefused step g before rows starts.KeepFault = (count : ℕ) × IsBegun count g before rows
+OpenRefused step g before rows starts.NoMemory = (count : ℕ) × IsBegun count g before rows
+
+-- an event that is not answered leaves the rows as they were, or they are those behind it; no row is the cause
+pub record Breaks (r : World × Reply) (w : World) (rows : Option Rows) (fault : StartFault) : Type 0 where
+  pub outside : (fault ≡ starts.KeepFault) ⊎ (fault ≡ starts.NoMemory)
+  pub rows : (rows ≡ Some w.rows) ⊎ (rows ≡ Some r.0.rows)

@@ -8,3 +8,4 @@ pub mod Pool
 pub mod Short
 pub mod Faults
 pub mod Laws
+pub mod Restarts

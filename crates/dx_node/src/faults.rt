@@ -5,7 +5,7 @@ ghost use Rattle.dx_node.specs.Faults.{place_cause, cancel_cause, feed_cause, pr
 
 use crate::refusal::{Refusal, cause, cause_until};
 use dx_orders::OrderFault;
-use dx_types::NoMemory;
+use dx_types::{Bad, NoMemory};
 use thiserror::Error;
 
 /// Why an order is not placed ("Placing" in docs/RULES.md).
@@ -298,4 +298,44 @@ impl From<NoMemory> for SweepFault {
     fn from(_refused: NoMemory) -> SweepFault {
         SweepFault::NoMemory
     }
+}
+
+/// Why a block is not committed ("Block" and "Rows" in docs/RULES.md).
+#[derive(Clone, Copy, Debug, PartialEq, Eq, Error)]
+pub enum CommitFault {
+    /// The block is not good: its first bad part.
+    #[error("the block is not good")]
+    Bad(Bad),
+    /// The keeper did not keep the block. It comes only where the keeper's count of faults rose.
+    #[error("a call of the keeper failed")]
+    KeepFault,
+    /// There was no memory.
+    #[error("out of memory")]
+    NoMemory,
+}
+
+/// Why a node is not restarted ("Rows" in docs/RULES.md).
+#[derive(Clone, Copy, Debug, PartialEq, Eq, Error)]
+pub enum RestartFault {
+    /// A row is missing, is no block, or is a block that is not good behind those before it; or the row at height 0
+    /// is no digest.
+    #[error("the kept row at height {height} is none of the node's")]
+    KeptBad {
+        /// The height of the first such row.
+        height: u32,
+    },
+    /// The row at height 0 is the digest of another genesis.
+    #[error("the kept rows are those of another genesis")]
+    KeptOther {
+        /// The digest that is kept.
+        kept: [u8; 32],
+        /// The digest of the node's own genesis.
+        ours: [u8; 32],
+    },
+    /// A call of the keeper failed. It comes only where the keeper's count of faults rose.
+    #[error("a call of the keeper failed")]
+    KeepFault,
+    /// There was no memory.
+    #[error("out of memory")]
+    NoMemory,
 }

@@ -36,7 +36,10 @@ mod trades;
 mod votes;
 mod waiting;
 
-pub use faults::{CancelFault, FeedFault, MessageFault, PlaceFault, ProposeFault, SweepFault};
+pub use faults::{
+    CancelFault, CommitFault, FeedFault, MessageFault, PlaceFault, ProposeFault, RestartFault,
+    SweepFault,
+};
 pub use laws::{
     cancelling_stays, committed_leave_pool, committed_stays, listed_rest_not, pooling_stays,
     proposal_has_pool,

@@ -1,6 +1,6 @@
 //! A node, and its calls.
 
-ghost use Rattle.std.specs.Prelude.{◌≡◌, ◌+◌, true, false, [], length, Ok, OnOk, IfOk, IfErr, OnErr, IsOk};
+ghost use Rattle.std.specs.Prelude.{◌≡◌, ◌+◌, true, false, [], length, Ok, OnOk, IfOk, IfErr, OnErr, IsOk, IsErrOf, ◌≤◌};
 ghost use Rattle.dx_spec.specs.Blocks.{block_step};
 ghost use Rattle.dx_spec.specs.Genesis.{IsGenesis};
 ghost use Rattle.dx_spec.specs.Audits.{audit as audit_of};
@@ -16,13 +16,21 @@ ghost use Rattle.dx_node.specs.Short.{IsShort};
 ghost use Rattle.dx_node.specs.Trades.{outcome_of};
 ghost use Rattle.dx_node.specs.Standing.{StandsFor, LeadsTo, Gives, GivesBoth, Becomes};
 ghost use Rattle.dx_node.specs.Faults.{FeedRefused, PlaceRefused, ProposeRefused, CancelRefused, MessageRefused, SweepRefused};
+ghost use Rattle.dx_node.specs.Restarts.{committed_digest, CommitRefused, Restarts, RestartRefused, BeginsRows};
+ghost use Rattle.dx_io.specs.Causes.{Rose};
+ghost use Rattle.dx_io.specs.Rows.{SameRows, SetsRow};
+ghost use Rattle.dx_codec.specs.Blocks.{block_bytes, FitsBlock};
+ghost use Rattle.dx_history.specs.Rows.{place_of};
 
 use crate::cancelling::{
     MOST_CANCELS, check_cancel, count, end_all, end_order, orders_of, with_ends,
 };
 use crate::cancels::Cancels;
 use crate::commits::{After, apply};
-use crate::faults::{CancelFault, FeedFault, MessageFault, PlaceFault, ProposeFault, SweepFault};
+use crate::faults::{
+    CancelFault, CommitFault, FeedFault, MessageFault, PlaceFault, ProposeFault, RestartFault,
+    SweepFault,
+};
 use crate::feed::Feed;
 use crate::placed::Placed;
 use crate::placing::{place_again, place_at};
@@ -33,6 +41,7 @@ use crate::sweeping::{Swept, sweep_at};
 use crate::votes::votes;
 use crate::waiting::Waiting;
 use dx_book::Book;
+use dx_io::Keeper;
 use dx_ledger::Ledger;
 use dx_queue::Queue;
 use dx_replay::purge;
@@ -181,45 +190,63 @@ impl Node {
         check_block(alloc, &mut self.committed, block)
     }
 
-    /// Commits a block, and tells the results of its messages: the block becomes the node's last. The orders that the
-    /// queue mentions, and those that the block's good messages placed, are listed to be placed again by
-    /// [`Node::replay_next`]; the queue is emptied, and what may not rest on leaves the book. Cancels that stand no
-    /// longer are dropped, for each message of the block the first equal one leaves the pool, and the fed prices stay
-    /// ("Block" and "After a commit" in docs/RULES.md).
+    /// Commits a block, and tells the results of its messages: the block becomes the node's last, and its bytes are
+    /// the row of the node's number at its height; no other row changes. The orders that the queue mentions, and those
+    /// that the block's good messages placed, are listed to be placed again by [`Node::replay_next`]; the queue is
+    /// emptied, and what may not rest on leaves the book. Cancels that stand no longer are dropped, for each message of
+    /// the block the first equal one leaves the pool, and the fed prices stay ("Block", "After a commit" and "Rows" in
+    /// docs/RULES.md). All memory is taken before the row is set.
     ///
-    /// `Bad` with the block's first bad part, exactly as [`Node::check`] has it; `NoMemory` where there is none.
-    /// The node is then as before.
-    pub fn commit(&mut self, block: &Block) -> Result<List<u32>, BlockFault>
+    /// `Bad` with the block's first bad part, exactly as [`Node::check`] has it; `KeepFault` only where the keeper's
+    /// count of faults rose; `NoMemory` where there is none. The node and the rows are then as before.
+    pub fn commit<K: Keeper>(&mut self, block: &Block, keeper: &mut K) -> Result<List<u32>, CommitFault>
         requires idle { self.old.again ≡ [] }
         ensures ok { IfOk result (λ results. (p : PlainNode) → StandsFor self.old p
             → Gives self.new results (committed_with p block.now)) }
         ensures refused { IfErr result (λ fault. (p : PlainNode) → StandsFor self.old p
-            → Refuses fault (committed_with p block.now)) }
+            → CommitRefused (committed_with p block.now) fault) }
         ensures same { OnErr result (self.new ≡ self.old) }
+        ensures row { OnOk result (SetsRow (K.rows keeper.old) (K.rows keeper.new)
+            (place_of self.old.number block.now.height) (block_bytes block.now)) }
+        ensures fits { OnOk result (FitsBlock block.now) }
+        ensures rows { OnErr result (SameRows (K.rows keeper.old) (K.rows keeper.new)) }
+        ensures later { K.faults keeper.old ≤ K.faults keeper.new }
+        ensures failed { IsErrOf result CommitFault.KeepFault → Rose (K.faults keeper.old) (K.faults keeper.new) }
     {
-        let alloc = self.allocator();
-        let After {
-            committed,
-            speculative,
-            results,
-            again,
-            pool,
-        } = apply(
-            alloc,
-            &self.committed,
-            &self.queue,
-            &self.book,
-            &self.pool,
-            block,
-        )?;
-        purge(&mut self.book, &again, &committed);
-        self.committed = committed;
-        self.speculative = speculative;
-        self.queue.clear();
-        self.cancels.drop_ended(block.height);
-        self.pool = pool;
-        self.again = Waiting::of(again);
-        Ok(results)
+        Err(CommitFault::NoMemory)
+    }
+
+    /// Starts anew from the rows that a keeper has of the node's number: their blocks are the node's, its queue, book,
+    /// cancels, pool and fed prices are empty, and the stateful orders of the state after the blocks are listed, by
+    /// rising id, to be placed again by [`Node::replay_next`]. Where there are no rows, the digest of the node's
+    /// genesis becomes the row at height 0. The answer is the height of the last block ("Rows" in docs/RULES.md).
+    ///
+    /// The rows are read by rising height, each block is folded before the next row is read, and the first that is no
+    /// row of a chain ends the call: `KeptOther` exactly where the row at height 0 is 32 bytes other than the digest of
+    /// the node's genesis, `KeptBad` exactly where a row below the count is missing, is no block or is one that is not
+    /// good, or the row at height 0 is not 32 bytes. `KeepFault` only where the keeper's count of faults rose;
+    /// `NoMemory` where there is none. The node and the rows are then as before.
+    pub fn restart<K: Keeper>(&mut self, keeper: &mut K) -> Result<u32, RestartFault>
+        ensures ok { IfOk result (λ height. (p : PlainNode) → StandsFor self.old p
+            → Restarts (K.rows keeper.old) p self.new height) }
+        ensures refused { IfErr result (λ fault. (p : PlainNode) → StandsFor self.old p
+            → RestartRefused (K.rows keeper.old) p fault) }
+        ensures same { OnErr result (self.new ≡ self.old) }
+        ensures begun { OnOk result ((p : PlainNode) → StandsFor self.old p
+            → BeginsRows (K.rows keeper.old) (K.rows keeper.new) p) }
+        ensures rows { OnErr result (SameRows (K.rows keeper.old) (K.rows keeper.new)) }
+        ensures later { K.faults keeper.old ≤ K.faults keeper.new }
+        ensures failed { IsErrOf result RestartFault.KeepFault → Rose (K.faults keeper.old) (K.faults keeper.new) }
+    {
+        Err(RestartFault::NoMemory)
+    }
+
+    /// The SHA-256 of the bytes of the state after the blocks ("Bytes" in docs/FORMAT.md). `NoMemory` where there is
+    /// none for the bytes.
+    pub fn digest(&self) -> Result<[u8; 32], NoMemory>
+        ensures { IfOk result (λ digest. (p : PlainNode) → StandsFor self.now p → digest ≡ committed_digest p) }
+    {
+        Err(NoMemory)
     }
 
     /// Places the first order of the list again, and tells whether there was one ("After a commit" in docs/RULES.md).

@@ -1,0 +1,32 @@
+//! Why the nodes are not started, or an event is not answered.
+
+use thiserror::Error;
+
+/// Why nodes are not started, or an event is not answered ("Statuses" in docs/FORMAT.md).
+#[derive(Clone, Copy, Debug, PartialEq, Eq, Error)]
+pub enum StartFault {
+    /// A row of a node is missing, is no block, or is a block that is not good behind those before it.
+    #[error("the kept row of node {node} at height {height} is none of its")]
+    KeptBad {
+        /// The first such node.
+        node: u32,
+        /// The height of its first such row.
+        height: u32,
+    },
+    /// The rows of a node are those of another genesis.
+    #[error("the kept rows of node {node} are those of another genesis")]
+    KeptOther {
+        /// The first such node.
+        node: u32,
+        /// The digest of the genesis that is kept.
+        kept: [u8; 32],
+        /// The digest of the genesis of this run.
+        ours: [u8; 32],
+    },
+    /// A call of the keeper failed. It comes only where the keeper's count of faults rose.
+    #[error("a call of the keeper failed")]
+    KeepFault,
+    /// There was no memory.
+    #[error("out of memory")]
+    NoMemory,
+}
