@@ -1,6 +1,6 @@
-pub mod Built
 pub mod Stored
 pub mod Acts
 pub mod Refusals
 pub mod World
+pub mod Starts
 pub mod Laws

@@ -1,12 +1,13 @@
 -- All nodes, slots and kept rows, and what an event does.
-use Rattle.std.specs.Prelude.{◌≡◌, ℕ, List, [], ◌∷◌, map, fold, length, sum_by, Option, Some, None, Result, Ok, Err, slice_get, slice_set, All}
-use Rattle.std.specs.List.{AllZip, range_with_len}
+use Rattle.std.specs.Prelude.{◌≡◌, ◌⊎◌, ℕ, Bool, true, false, List, [], ◌∷◌, map, length, sum_by, Option, Some, None, Result, Ok, Err, slice_get, slice_set, All}
+use Rattle.std.specs.List.{AllZip, range_with_len, fold}
 use Rattle.std.specs.FinMap.{get, insert, empty}
 use Rattle.dx_types.specs.declared.Block.{Block}
 use Rattle.dx_types.specs.declared.Bad.{Bad}
 use Rattle.dx_types.specs.declared.Genesis.{Genesis}
 use Rattle.dx_io.specs.Rows.{Rows}
 use Rattle.dx_spec.specs.Step.{◌>>=◌}
+use Rattle.dx_spec.specs.State.{genesis_state}
 use Rattle.dx_spec.specs.Blocks.{fills_in}
 use Rattle.dx_codec.specs.Blocks.{block_bytes}
 use Rattle.dx_history.specs.Rows.{place_of}
@@ -130,6 +131,12 @@ acted w (events.Audit node) = act_at w node tell_audit
 acted w (events.Digest node) = act_at w node tell_digest
 acted w (events.Restart node) = act_at w node restart_node
 
+-- an event that reads or sets kept rows
+abbrev pub uses_rows : Event → Bool
+uses_rows (events.Commit node slot) = true
+uses_rows (events.Restart node) = true
+uses_rows event = false
+
 -- the answer behind the event's word
 abbrev pub replied : Word → World × Answer → World × Reply
 replied word r = (r.0, record { word = word; answer = r.1 })
@@ -148,6 +155,11 @@ pub record Stands (c : Cluster) (w : World) : Type 0 where
   pub slots : c.slots ≡ w.slots
   pub idle : All IsIdle w.nodes
 
+-- the rows of a node are just those of its blocks, which are folded from its genesis on
+pub record HasRows (rows : Rows) (p : Node) : Type 0 where
+  pub base : p.base ≡ genesis_state p.genesis
+  pub chain : IsChain rows p.number p.genesis p.blocks
+
 -- the keeper's rows are those of the world, in which those of each node are just those of its blocks
 pub record KeepsRows (rows : Option Rows) (w : World) : Type 0 where
   -- it tells the rows of the world
@@ -155,7 +167,7 @@ pub record KeepsRows (rows : Option Rows) (w : World) : Type 0 where
   -- the nodes are numbered from 0
   pub numbered : map (λ p. p.number) w.nodes ≡ range_with_len 0 (length w.nodes)
   -- a node's rows are those of its blocks
-  pub chains : All (λ p. IsChain w.rows p.number p.genesis p.blocks) w.nodes
+  pub chains : All (HasRows w.rows) w.nodes
 
 -- there are nodes and slots that it stands for
 abbrev pub StandsForSome : Cluster → Type 0
@@ -192,7 +204,19 @@ OpenRefused step g before rows (starts.KeptOther node theirs ours) =
 OpenRefused step g before rows starts.KeepFault = (count : ℕ) × IsBegun count g before rows
 OpenRefused step g before rows starts.NoMemory = (count : ℕ) × IsBegun count g before rows
 
--- an event that is not answered leaves the rows as they were, or they are those behind it; no row is the cause
-pub record Breaks (r : World × Reply) (w : World) (rows : Option Rows) (fault : StartFault) : Type 0 where
-  pub outside : (fault ≡ starts.KeepFault) ⊎ (fault ≡ starts.NoMemory)
-  pub rows : (rows ≡ Some w.rows) ⊎ (rows ≡ Some r.0.rows)
+-- the keeper failed, or there was no memory
+abbrev pub IsOutside : StartFault → Type 0
+IsOutside fault = (fault ≡ starts.KeepFault) ⊎ (fault ≡ starts.NoMemory)
+
+-- the rows are those before, or those behind
+abbrev pub AreEither : Option Rows → Rows → Rows → Type 0
+AreEither rows before behind = (rows ≡ Some before) ⊎ (rows ≡ Some behind)
+
+-- a run may end at an act for the fault: no row is the cause, and the rows are those before the act, or those behind it
+pub record MayEnd (before behind : World) (rows : Option Rows) (fault : StartFault) : Type 0 where
+  pub outside : IsOutside fault
+  pub either : AreEither rows before.rows behind.rows
+
+-- an event is not answered for the fault
+abbrev pub Breaks : World × Reply → World → Option Rows → StartFault → Type 0
+Breaks r w rows fault = MayEnd w r.0 rows fault

@@ -1,15 +1,20 @@
 //! What one node does, and its answer.
 
-ghost use Rattle.std.specs.Prelude.{◌≡◌, [], ◌∷◌, Some, IfOk, OnOk};
+ghost use Rattle.std.specs.Prelude.{◌≡◌, ◌≤◌, [], ◌∷◌, Some, IfOk, OnOk, IfErr, OnErr, IsErrOf};
 ghost use Rattle.dx_node_spec.specs.Node.{Node as PlainNode};
 ghost use Rattle.dx_node_spec.specs.Commits.{placed_again};
 ghost use Rattle.dx_node.specs.Standing.{StandsFor};
 ghost use Rattle.dx_node.specs.Trades.{outcome_of};
-ghost use Rattle.dx_cluster.specs.Acts.{outcome_answer, place_order, cancel_order, cancel_orders, feed_price, pool_message, sweep_account, check_slot, commit_slot, best_answer, tell_balance, tell_speculative, tell_filled, tell_best, tell_audit};
-ghost use Rattle.dx_cluster.specs.World.{Acts};
-ghost use Rattle.dx_cluster.specs.Refusals.{AnswersBlock, AnswersCause, cause_answer};
+ghost use Rattle.dx_cluster.specs.Acts.{outcome_answer, place_order, cancel_order, cancel_orders, feed_price, pool_message, sweep_account, check_slot, commit_slot, best_answer, tell_balance, tell_speculative, tell_filled, tell_best, tell_audit, tell_digest, show_slot};
+ghost use Rattle.dx_cluster.specs.World.{Acts, IsOutside};
+ghost use Rattle.dx_cluster.specs.Starts.{KeepsBlock, MayKeepBlock};
+ghost use Rattle.dx_cluster.specs.Refusals.{AnswersBlock, AnswersCause, AnswersCommit, cause_answer};
+ghost use Rattle.dx_io.specs.Causes.{Rose};
 
-use dx_node::{Node, Placed, Refusal};
+use crate::fault::StartFault;
+use dx_codec::encode_block;
+use dx_io::Keeper;
+use dx_node::{CommitFault, Node, Placed, Refusal};
 use dx_print::Answer;
 use dx_rules::BlockFault;
 use dx_types::{Block, List, Msg, NoMemory, Order, OrderId, SubaccountId};
@@ -154,7 +159,7 @@ fn good_numbers(height: u32, results: &List<u32>) -> Result<List<u32>, NoMemory>
 }
 
 /// Places all orders of a node's list again, one after another: each turn takes the first.
-fn place_list_again(node: &mut Node) -> Result<(), NoMemory>
+pub(crate) fn place_list_again(node: &mut Node) -> Result<(), NoMemory>
     ensures { OnOk result ((p : PlainNode) → StandsFor node.old p → StandsFor node.new (placed_again p)) }
 {
     'turns: for _turn in 0..node.pending() {
@@ -163,18 +168,40 @@ fn place_list_again(node: &mut Node) -> Result<(), NoMemory>
     Ok(())
 }
 
-/// A node commits a block, and places its orders again.
-pub(crate) fn commit_block(node: &mut Node, block: &Block) -> Result<Answer, NoMemory>
-    requires idle { node.old.again ≡ [] }
-    ensures { IfOk result (λ answer. Acts (commit_slot (Some block.now)) node.old node.new answer) }
+/// The answer to a block that is not committed; none is there where the keeper failed or there was no memory.
+fn commit_refusal(fault: CommitFault) -> Result<Answer, StartFault>
+    ensures { AnswersCommit fault result }
 {
-    match node.commit(block) {
+    match fault {
+        CommitFault::Bad(bad) => Ok(Answer::Bad(bad)),
+        CommitFault::KeepFault => Err(StartFault::KeepFault),
+        CommitFault::NoMemory => Err(StartFault::NoMemory),
+    }
+}
+
+/// A node commits a block, whose bytes become one of its rows, and places its orders again.
+pub(crate) fn commit_block<K: Keeper>(
+    node: &mut Node,
+    block: &Block,
+    keeper: &mut K,
+) -> Result<Answer, StartFault>
+    requires idle { node.old.again ≡ [] }
+    ensures done { IfOk result (λ answer. Acts (commit_slot (Some block.now)) node.old node.new answer) }
+    ensures kept { OnOk result ((p : PlainNode) → StandsFor node.old p
+        → KeepsBlock (K.rows keeper.old) (K.rows keeper.new) p block.now) }
+    ensures outside { IfErr result IsOutside }
+    ensures either { OnErr result ((p : PlainNode) → StandsFor node.old p
+        → MayKeepBlock (K.rows keeper.old) (K.rows keeper.new) p block.now) }
+    ensures later { K.faults keeper.old ≤ K.faults keeper.new }
+    ensures failed { IsErrOf result StartFault.KeepFault → Rose (K.faults keeper.old) (K.faults keeper.new) }
+{
+    match node.commit(block, keeper) {
         Ok(results) => {
             let numbers = good_numbers(block.height, &results)?;
             place_list_again(node)?;
             Ok(Answer::Good(numbers))
         }
-        Err(fault) => block_refusal(fault),
+        Err(fault) => commit_refusal(fault),
     }
 }
 
@@ -237,4 +264,22 @@ pub(crate) fn tell_audit(node: &Node) -> Answer
     ensures { Acts tell_audit node.now node.now result }
 {
     Answer::Audit(node.audit())
+}
+
+/// The bytes of a block that a slot has. `NoMemory` where there is none for them.
+pub(crate) fn show_block(alloc: Global, block: &Block) -> Result<Answer, NoMemory>
+    ensures { IfOk result (λ answer. answer ≡ show_slot (Some block.now)) }
+{
+    Ok(Answer::Bytes(encode_block(alloc, block)?))
+}
+
+/// A node tells the digest of its committed state. `NoMemory` where there is none for the bytes of the state.
+pub(crate) fn tell_digest(node: &Node) -> Result<Answer, NoMemory>
+    ensures { IfOk result (λ answer. Acts tell_digest node.now node.now answer) }
+{
+    let digest = node.digest()?;
+    Ok(Answer::Digest {
+        height: node.height(),
+        digest,
+    })
 }

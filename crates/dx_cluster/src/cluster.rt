@@ -4,11 +4,14 @@ ghost use Rattle.std.specs.Prelude.{◌<◌, ◌≤◌, length};
 
 use crate::acts::{
     cancel_order, cancel_orders, check_block, commit_block, feed_price, place_order, pool_message,
-    refused_or_memory, sweep_account, tell_audit, tell_balance, tell_best, tell_filled,
-    tell_speculative,
+    refused_or_memory, show_block, sweep_account, tell_audit, tell_balance, tell_best, tell_digest,
+    tell_filled, tell_speculative,
 };
+use crate::fault::StartFault;
 use crate::proposed::proposed;
 use crate::slots::Slots;
+use crate::starting::{restart_node, start_node};
+use dx_io::Keeper;
 use dx_node::Node;
 use dx_print::{Answer, Reply};
 use dx_scenario::Event;
@@ -27,24 +30,42 @@ pub struct Cluster {
 }
 
 impl Cluster {
-    ghost use Rattle.std.specs.Prelude.{◌≡◌, IfOk};
+    ghost use Rattle.std.specs.Prelude.{◌≡◌, false, Some, IfOk, OnOk, IfErr, IsErrOf};
     ghost use Rattle.std.specs.FinMap.{get};
     ghost use Rattle.dx_spec.specs.Genesis.{IsNatFrom, IsGenesis};
     ghost use Rattle.dx_scenario.specs.Events.{IsOf};
-    ghost use Rattle.dx_cluster.specs.Built.{unbuilt_place};
-    ghost use Rattle.dx_cluster.specs.Acts.{place_order, cancel_order, cancel_orders, feed_price, pool_message, sweep_account, check_slot, commit_slot, tell_balance, tell_speculative, tell_filled, tell_best, tell_audit};
-    ghost use Rattle.dx_cluster.specs.World.{World, world_of, heights, act_at, propose_at, acted, step, Stands, StandsForSome, HasActed, IsDone};
+    ghost use Rattle.dx_io.specs.Causes.{Rose};
+    ghost use Rattle.dx_io.specs.Rows.{Rows};
+    ghost use Rattle.dx_cluster.specs.Acts.{place_order, cancel_order, cancel_orders, feed_price, pool_message, sweep_account, check_slot, restart_node, show_slot, tell_balance, tell_speculative, tell_filled, tell_best, tell_audit, tell_digest};
+    ghost use Rattle.dx_cluster.specs.World.{World, opened, heights, act_at, commit_at, propose_at, acted, uses_rows, step, Stands, StandsForSome, KeepsRows, HasActed, IsDone, Opens, OpenRefused, MayEnd, Breaks};
 
-    /// From 1 to 16 nodes of one genesis, numbered from 0, and no slot filled ("Genesis line" in
-    /// docs/FORMAT.md). `NoMemory` where there is none for them.
-    pub fn new(alloc: Global, count: u32, genesis: &Genesis) -> Result<Cluster, NoMemory>
+    /// From 1 to 16 nodes of one genesis, numbered from 0, each started from the rows that a keeper has of it, and no
+    /// slot filled ("Genesis line" in docs/FORMAT.md). A node that has no rows gets the digest of the genesis as its
+    /// first one.
+    ///
+    /// The first node whose rows are no chain of the genesis ends the call, `KeptBad` or `KeptOther`; `KeepFault` only
+    /// where the keeper's count of faults rose; `NoMemory` where there is none. The rows are then those behind the
+    /// starts of the nodes before.
+    pub fn open<K: Keeper>(
+        alloc: Global,
+        count: u32,
+        genesis: &Genesis,
+        keeper: &mut K,
+    ) -> Result<Cluster, StartFault>
         requires count { IsNatFrom 1 16 count }
         requires genesis { IsGenesis genesis.now }
-        ensures { IfOk result (λ cluster. Stands cluster (world_of count genesis.now)) }
+        ensures opened { (rows : Rows) → K.rows keeper.old ≡ Some rows → IfOk result (λ cluster.
+            Opens (opened count genesis.now rows) cluster (K.rows keeper.new)) }
+        ensures stands { IfOk result StandsForSome }
+        ensures many { IfOk result (λ cluster. length cluster.nodes.items ≡ count) }
+        ensures refused { (rows : Rows) → K.rows keeper.old ≡ Some rows → IfErr result (λ fault.
+            OpenRefused (opened count genesis.now rows) genesis.now rows (K.rows keeper.new) fault) }
+        ensures later { K.faults keeper.old ≤ K.faults keeper.new }
+        ensures failed { IsErrOf result StartFault.KeepFault → Rose (K.faults keeper.old) (K.faults keeper.new) }
     {
         let mut nodes = Vec::new(alloc);
         'nodes: for number in 0..count {
-            nodes.push(Node::new(alloc, genesis, number)?)?;
+            nodes.push(start_node(alloc, genesis, number, keeper)?)?;
         }
         Ok(Cluster {
             nodes,
@@ -74,8 +95,9 @@ impl Cluster {
     fn place(&mut self, node: u32, order: &Order) -> Result<Answer, NoMemory>
         requires stands { StandsForSome self.old }
         requires there { node < length self.old.nodes.items }
-        ensures { IfOk result (λ answer. (w : World) → Stands self.old w
+        ensures done { IfOk result (λ answer. (w : World) → Stands self.old w
             → HasActed (act_at w node (place_order order.now)) self.new answer) }
+        ensures many { length self.new.nodes.items ≡ length self.old.nodes.items }
     {
         place_order(&mut self.nodes[node as usize], order)
     }
@@ -84,8 +106,9 @@ impl Cluster {
     fn cancel(&mut self, node: u32, id: &OrderId, until: u32) -> Result<Answer, NoMemory>
         requires stands { StandsForSome self.old }
         requires there { node < length self.old.nodes.items }
-        ensures { IfOk result (λ answer. (w : World) → Stands self.old w
+        ensures done { IfOk result (λ answer. (w : World) → Stands self.old w
             → HasActed (act_at w node (cancel_order id.now until)) self.new answer) }
+        ensures many { length self.new.nodes.items ≡ length self.old.nodes.items }
     {
         cancel_order(&mut self.nodes[node as usize], id, until)
     }
@@ -94,8 +117,9 @@ impl Cluster {
     fn cancel_all(&mut self, node: u32, who: SubaccountId) -> Result<Answer, NoMemory>
         requires stands { StandsForSome self.old }
         requires there { node < length self.old.nodes.items }
-        ensures { IfOk result (λ answer. (w : World) → Stands self.old w
+        ensures done { IfOk result (λ answer. (w : World) → Stands self.old w
             → HasActed (act_at w node (cancel_orders who)) self.new answer) }
+        ensures many { length self.new.nodes.items ≡ length self.old.nodes.items }
     {
         cancel_orders(&mut self.nodes[node as usize], who)
     }
@@ -104,8 +128,9 @@ impl Cluster {
     fn feed(&mut self, node: u32, market: u32, price: u64) -> Answer
         requires stands { StandsForSome self.old }
         requires there { node < length self.old.nodes.items }
-        ensures { (w : World) → Stands self.old w
+        ensures done { (w : World) → Stands self.old w
             → HasActed (act_at w node (feed_price market price)) self.new result }
+        ensures many { length self.new.nodes.items ≡ length self.old.nodes.items }
     {
         feed_price(&mut self.nodes[node as usize], market, price)
     }
@@ -114,8 +139,9 @@ impl Cluster {
     fn message(&mut self, node: u32, msg: &Msg) -> Result<Answer, NoMemory>
         requires stands { StandsForSome self.old }
         requires there { node < length self.old.nodes.items }
-        ensures { IfOk result (λ answer. (w : World) → Stands self.old w
+        ensures done { IfOk result (λ answer. (w : World) → Stands self.old w
             → HasActed (act_at w node (pool_message msg.now)) self.new answer) }
+        ensures many { length self.new.nodes.items ≡ length self.old.nodes.items }
     {
         pool_message(&mut self.nodes[node as usize], msg)
     }
@@ -124,8 +150,9 @@ impl Cluster {
     fn sweep(&mut self, node: u32, who: SubaccountId) -> Result<Answer, NoMemory>
         requires stands { StandsForSome self.old }
         requires there { node < length self.old.nodes.items }
-        ensures { IfOk result (λ answer. (w : World) → Stands self.old w
+        ensures done { IfOk result (λ answer. (w : World) → Stands self.old w
             → HasActed (act_at w node (sweep_account who)) self.new answer) }
+        ensures many { length self.new.nodes.items ≡ length self.old.nodes.items }
     {
         sweep_account(&mut self.nodes[node as usize], who)
     }
@@ -134,8 +161,9 @@ impl Cluster {
     fn propose(&mut self, node: u32, slot: u32, time: u32) -> Result<Answer, NoMemory>
         requires stands { StandsForSome self.old }
         requires there { node < length self.old.nodes.items }
-        ensures { IfOk result (λ answer. (w : World) → Stands self.old w
+        ensures done { IfOk result (λ answer. (w : World) → Stands self.old w
             → HasActed (propose_at w node slot time) self.new answer) }
+        ensures many { length self.new.nodes.items ≡ length self.old.nodes.items }
     {
         match self.nodes[node as usize].propose(time) {
             Ok(proposal) => {
@@ -151,8 +179,9 @@ impl Cluster {
     fn check(&mut self, node: u32, slot: u32) -> Result<Answer, NoMemory>
         requires stands { StandsForSome self.old }
         requires there { node < length self.old.nodes.items }
-        ensures { IfOk result (λ answer. (w : World) → Stands self.old w
+        ensures done { IfOk result (λ answer. (w : World) → Stands self.old w
             → HasActed (act_at w node (check_slot (get w.slots slot))) self.new answer) }
+        ensures many { length self.new.nodes.items ≡ length self.old.nodes.items }
     {
         let alloc = *self.nodes.allocator();
         let Some(block) = self.slots.block(slot) else {
@@ -161,17 +190,43 @@ impl Cluster {
         check_block(alloc, &mut self.nodes[node as usize], block)
     }
 
-    /// A node commits the block of a slot.
-    fn commit(&mut self, node: u32, slot: u32) -> Result<Answer, NoMemory>
+    /// A node commits the block of a slot, whose bytes become one of the node's rows.
+    fn commit<K: Keeper>(&mut self, node: u32, slot: u32, keeper: &mut K) -> Result<Answer, StartFault>
         requires stands { StandsForSome self.old }
         requires there { node < length self.old.nodes.items }
-        ensures { IfOk result (λ answer. (w : World) → Stands self.old w
-            → HasActed (act_at w node (commit_slot (get w.slots slot))) self.new answer) }
+        ensures done { IfOk result (λ answer. (w : World) → Stands self.old w
+            → HasActed (commit_at w node slot) self.new answer) }
+        ensures kept { OnOk result ((w : World) → Stands self.old w → KeepsRows (K.rows keeper.old) w
+            → KeepsRows (K.rows keeper.new) (commit_at w node slot).0) }
+        ensures many { length self.new.nodes.items ≡ length self.old.nodes.items }
+        ensures breaks { IfErr result (λ fault. (w : World) → Stands self.old w → KeepsRows (K.rows keeper.old) w
+            → MayEnd w (commit_at w node slot).0 (K.rows keeper.new) fault) }
+        ensures later { K.faults keeper.old ≤ K.faults keeper.new }
+        ensures failed { IsErrOf result StartFault.KeepFault → Rose (K.faults keeper.old) (K.faults keeper.new) }
     {
         let Some(block) = self.slots.block(slot) else {
             return Ok(Answer::Empty);
         };
-        commit_block(&mut self.nodes[node as usize], block)
+        commit_block(&mut self.nodes[node as usize], block, keeper)
+    }
+
+    /// A node starts anew from its rows, and tells its height.
+    fn restart<K: Keeper>(&mut self, node: u32, keeper: &mut K) -> Result<Answer, StartFault>
+        requires stands { StandsForSome self.old }
+        requires there { node < length self.old.nodes.items }
+        ensures done { IfOk result (λ answer. (w : World) → Stands self.old w → KeepsRows (K.rows keeper.old) w
+            → HasActed (act_at w node restart_node) self.new answer) }
+        ensures kept { OnOk result ((w : World) → Stands self.old w → KeepsRows (K.rows keeper.old) w
+            → KeepsRows (K.rows keeper.new) (act_at w node restart_node).0) }
+        ensures stands { OnOk result (StandsForSome self.new) }
+        ensures many { length self.new.nodes.items ≡ length self.old.nodes.items }
+        ensures breaks { IfErr result (λ fault. (w : World) → Stands self.old w → KeepsRows (K.rows keeper.old) w
+            → MayEnd w (act_at w node restart_node).0 (K.rows keeper.new) fault) }
+        ensures later { K.faults keeper.old ≤ K.faults keeper.new }
+        ensures failed { IsErrOf result StartFault.KeepFault → Rose (K.faults keeper.old) (K.faults keeper.new) }
+    {
+        let height = restart_node(&mut self.nodes[node as usize], keeper)?;
+        Ok(Answer::Done(Some(height)))
     }
 
     /// A node tells an account's committed balance.
@@ -214,18 +269,41 @@ impl Cluster {
         tell_audit(&self.nodes[node as usize])
     }
 
-    /// Does what an event asks for, and tells the answer.
+    /// A node tells the digest of its committed state.
+    fn digest(&self, node: u32) -> Result<Answer, NoMemory>
+        requires { node < length self.now.nodes.items }
+        ensures { IfOk result (λ answer. (w : World) → Stands self.now w
+            → HasActed (act_at w node tell_digest) self.now answer) }
+    {
+        tell_digest(&self.nodes[node as usize])
+    }
+
+    /// The bytes of the block of a slot.
+    fn show(&self, slot: u32) -> Result<Answer, NoMemory>
+        ensures { IfOk result (λ answer. (w : World) → Stands self.now w
+            → HasActed (w, show_slot (get w.slots slot)) self.now answer) }
+    {
+        match self.slots.block(slot) {
+            Some(block) => show_block(*self.nodes.allocator(), block),
+            None => Ok(Answer::Empty),
+        }
+    }
+
+    /// Does what an event asks for that reads and sets no rows, and tells the answer.
     fn act(&mut self, event: Event) -> Result<Answer, NoMemory>
         requires stands { StandsForSome self.old }
         requires of { IsOf (length self.old.nodes.items) event }
-        requires built { unbuilt_place event ≡ None }
-        ensures { IfOk result (λ answer. (w : World) → Stands self.old w → HasActed (acted w event) self.new answer) }
+        requires beside { uses_rows event ≡ false }
+        ensures done { IfOk result (λ answer. (w : World) → Stands self.old w
+            → HasActed (acted w event) self.new answer) }
+        ensures many { length self.new.nodes.items ≡ length self.old.nodes.items }
     {
         match event {
             Event::Handed { slot, block } => {
                 self.slots.fill(slot, block)?;
                 Ok(Answer::Done(None))
             }
+            Event::Show { slot } => self.show(slot),
             Event::Place { node, order } => self.place(node, &order),
             Event::Cancel { node, id, until } => self.cancel(node, &id, until),
             Event::CancelAll { node, who } => self.cancel_all(node, who),
@@ -238,30 +316,43 @@ impl Cluster {
             Event::Sweep { node, who } => self.sweep(node, who),
             Event::Propose { node, slot, time } => self.propose(node, slot, time),
             Event::Check { node, slot } => self.check(node, slot),
-            Event::Commit { node, slot } => self.commit(node, slot),
             Event::Balance { node, who } => Ok(self.balance(node, who)),
             Event::Spec { node, who } => Ok(self.speculative(node, who)),
             Event::Filled { node, id } => Ok(self.filled(node, &id)),
             Event::Best { node, market } => Ok(self.best(node, market)),
             Event::Audit { node } => Ok(self.audit(node)),
-            Event::Show { .. } | Event::Digest { .. } | Event::Restart { .. } => unreachable!(),
+            Event::Digest { node } => self.digest(node),
+            Event::Commit { .. } | Event::Restart { .. } => unreachable!(),
         }
     }
 
-    /// Executes an event that is built, and tells the reply ("Events" in docs/FORMAT.md).
+    /// Executes an event, and tells the reply ("Events" in docs/FORMAT.md).
     ///
-    /// The cluster stands for some nodes and slots, as it does when it is made and behind each event.
+    /// The cluster stands for some nodes and slots, as it does when it is opened and behind each event. Where the keeper
+    /// tells its rows, and they are those of the nodes' blocks, the reply and what the cluster and the keeper hold behind
+    /// it are those of the definition.
     ///
-    /// `NoMemory` where there is none for what it keeps, tests or applies, or for the answer. Of the cluster
-    /// nothing is promised then: the run ends.
-    pub fn serve(&mut self, event: Event) -> Result<Reply, NoMemory>
+    /// `NoMemory` where there is none for what it keeps, tests or applies, or for the answer; `KeepFault` only where the
+    /// keeper's count of faults rose; `KeptBad` and `KeptOther` never where the keeper tells its rows. Of the cluster
+    /// nothing is promised then: the run ends. The rows are those before the event, or those behind it.
+    pub fn serve<K: Keeper>(&mut self, event: Event, keeper: &mut K) -> Result<Reply, StartFault>
         requires stands { StandsForSome self.old }
         requires of { IsOf (length self.old.nodes.items) event }
-        requires built { unbuilt_place event ≡ None }
-        ensures { IfOk result (λ reply. (w : World) → Stands self.old w → IsDone (step w event) self.new reply) }
+        ensures done { IfOk result (λ reply. (w : World) → Stands self.old w → KeepsRows (K.rows keeper.old) w
+            → IsDone (step w event) self.new reply × KeepsRows (K.rows keeper.new) (step w event).0) }
+        ensures stands { OnOk result (StandsForSome self.new) }
+        ensures many { length self.new.nodes.items ≡ length self.old.nodes.items }
+        ensures breaks { IfErr result (λ fault. (w : World) → Stands self.old w → KeepsRows (K.rows keeper.old) w
+            → Breaks (step w event) w (K.rows keeper.new) fault) }
+        ensures later { K.faults keeper.old ≤ K.faults keeper.new }
+        ensures failed { IsErrOf result StartFault.KeepFault → Rose (K.faults keeper.old) (K.faults keeper.new) }
     {
         let word = event.word();
-        let answer = self.act(event)?;
+        let answer = match event {
+            Event::Commit { node, slot } => self.commit(node, slot, keeper)?,
+            Event::Restart { node } => self.restart(node, keeper)?,
+            _ => self.act(event)?,
+        };
         Ok(Reply { word, answer })
     }
 }

@@ -1,5 +1,9 @@
 //! Why the nodes are not started, or an event is not answered.
 
+ghost use Rattle.std.specs.Prelude.{◌≡◌};
+
+use dx_types::NoMemory;
+use std::alloc::AllocFailed;
 use thiserror::Error;
 
 /// Why nodes are not started, or an event is not answered ("Statuses" in docs/FORMAT.md).
@@ -29,4 +33,24 @@ pub enum StartFault {
     /// There was no memory.
     #[error("out of memory")]
     NoMemory,
+}
+
+impl From<NoMemory> for StartFault {
+    ghost use Rattle.dx_cluster.specs.declared.fault.StartFault.TheVariants as starts;
+
+    ghost from_gives = { λ _ fault. fault ≡ starts.NoMemory };
+
+    fn from(_refused: NoMemory) -> StartFault {
+        StartFault::NoMemory
+    }
+}
+
+impl<T: Drop> From<AllocFailed<T>> for StartFault {
+    ghost use Rattle.dx_cluster.specs.declared.fault.StartFault.TheVariants as starts;
+
+    ghost from_gives = { λ _ fault. fault ≡ starts.NoMemory };
+
+    fn from(_refused: AllocFailed<T>) -> StartFault {
+        StartFault::NoMemory
+    }
 }

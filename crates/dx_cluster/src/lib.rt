@@ -16,16 +16,18 @@
 #![tactic(auto)]
 
 mod acts;
-mod built;
 mod cluster;
+mod fault;
 mod laws;
 mod proposed;
 mod slots;
+mod starting;
 
-pub use built::unbuilt_place;
 pub use cluster::Cluster;
+pub use fault::StartFault;
 pub use laws::{
-    committed_replies_agree, folds_stay_good, nodes_are_in_order, only_commits_count,
-    placings_stop_by_risk, proposals_are_good, states_balance,
+    committed_replies_agree, folds_stay_good, next_run_goes_on, nodes_are_in_order,
+    only_commits_count, placings_stop_by_risk, proposals_are_good, rows_are_of_blocks,
+    states_balance,
 };
 pub use slots::Slots;

@@ -1,0 +1,194 @@
+-- The rows of a node are just those of its blocks: when it starts, when it commits, and when others do.
+use Rattle.std.proofs.Common.{◌≡◌, ◌<◌, ◌≤◌, ◌+◌, ◌==◌, ℕ, zero, suc, Bool, true, false, cond, List, [], ◌∷◌, ◌++◌, length, arith, refl, sym, ap, subst, ◌∙◌, add-one, Some, Result, Ok, Err}
+use Rattle.std.specs.Prelude.{IsOk}
+use Rattle.std.specs.List.{range_with_len, fold}
+use Rattle.std.specs.FinMap.{insert}
+use Rattle.std.proofs.lemmas.Bool.{eqb-true}
+use Rattle.std.proofs.lemmas.Bool.Decides.{nat_tests}
+use Rattle.std.proofs.lemmas.List.Sums.{fold-append}
+use Rattle.dx_types.specs.declared.Block.{Block}
+use Rattle.dx_types.specs.declared.Genesis.{Genesis}
+use Rattle.dx_types.specs.declared.Bad.{Bad}
+use Rattle.dx_spec.specs.State.{State, genesis_state}
+use Rattle.dx_spec.specs.Blocks.{block_step, fold_blocks}
+use Rattle.dx_io.specs.Rows.{Rows, row_count}
+use Rattle.dx_codec.specs.Blocks.{block_bytes, FitsBlock}
+use Rattle.dx_codec.specs.Genesis.{digest_of}
+use Rattle.dx_history.specs.Rows.{place_of}
+use Rattle.dx_history.specs.Chains.{IsChain, kept, begun}
+use Rattle.dx_history.proofs.Laws.{kept_is_chain, chain_grows, chain_stays, kept_stays}
+use Rattle.dx_node_spec.specs.Node.{Node, new_node, committed}
+use Rattle.dx_node_spec.specs.Commits.{adopted, commit, replay_next, placed_again, restarted}
+use Rattle.dx_speculation.specs.Faithful.{SameBlocks}
+use Rattle.dx_speculation.specs.NodeEvents.{Replaying}
+use Rattle.dx_speculation.proofs.Roots.{other_events_keep_blocks}
+use Rattle.dx_speculation.proofs.Outcomes.{committed_is}
+use Rattle.dx_cluster.specs.Acts.{started}
+use Rattle.dx_cluster.specs.World.{begun_all, HasRows}
+use Rattle.dx_cluster.proofs.Living.{list_keeps}
+
+abbrev pub itself : (p : Node) → SameBlocks p p
+itself p = record { number = refl; genesis = refl; base = refl; blocks = refl }
+
+abbrev pub same_then : (p q r : Node) → SameBlocks p q → SameBlocks q r → SameBlocks p r
+same_then p q r h k = record { number = k.number ∙ h.number; genesis = k.genesis ∙ h.genesis; base = k.base ∙ h.base; blocks = k.blocks ∙ h.blocks }
+
+-- to place a list again leaves the blocks
+pub placed_same : (p : Node) → SameBlocks p (placed_again p)
+placed_same p = list_keeps (SameBlocks p) (λ x h. same_then p x (replay_next x).0 h (other_events_keep_blocks x Replaying tt).0) p (itself p)
+
+-- the blocks that a node starts anew from are its own, from its genesis on
+pub record StartsOver (p : Node) (blocks : List Block) (q : Node) : Type 0 where
+  pub number : q.number ≡ p.number
+  pub genesis : q.genesis ≡ p.genesis
+  pub base : q.base ≡ genesis_state p.genesis
+  pub blocks_are : q.blocks ≡ blocks
+
+restarted_over : (p : Node) (blocks : List Block) → StartsOver p blocks (restarted p blocks)
+unfolding restarted
+restarted_over p blocks = record { number = refl; genesis = refl; base = refl; blocks_are = refl }
+
+pub started_over : (p : Node) (blocks : List Block) → StartsOver p blocks (started p blocks)
+started_over p blocks =
+    let h = restarted_over p blocks in
+    let s = placed_same (restarted p blocks) in
+    record { number = s.number ∙ h.number; genesis = s.genesis ∙ h.genesis; base = s.base ∙ h.base; blocks_are = s.blocks ∙ h.blocks_are }
+
+-- a new node has its number and its genesis
+pub new_root : (number : ℕ) (g : Genesis) → ((new_node number g).number ≡ number) × ((new_node number g).genesis ≡ g)
+unfolding new_node
+new_root number g = (refl, refl)
+
+-- a chain of one node is that of another with the same number, genesis and blocks
+chain_of : (rows : Rows) (n m : ℕ) (g k : Genesis) (bs cs : List Block) → m ≡ n → k ≡ g → cs ≡ bs → IsChain rows n g bs → IsChain rows m k cs
+chain_of rows n m g k bs cs number genesis blocks h =
+    subst (λ (x : ℕ). IsChain rows x k cs) (sym number)
+    (subst (λ (x : Genesis). IsChain rows n x cs) (sym genesis) (subst (λ (xs : List Block). IsChain rows n g xs) (sym blocks) h))
+
+pub same_rows_have : (rows : Rows) (p q : Node) → SameBlocks p q → HasRows rows p → HasRows rows q
+same_rows_have rows p q s h = record {
+  base = s.base ∙ h.base ∙ ap genesis_state (sym s.genesis);
+  chain = chain_of rows p.number q.number p.genesis q.genesis p.blocks q.blocks s.number s.genesis s.blocks h.chain;
+}
+
+pub started_has : (rows : Rows) (p : Node) (blocks : List Block) → IsChain rows p.number p.genesis blocks → HasRows rows (started p blocks)
+started_has rows p blocks h =
+    let s = started_over p blocks in
+    record {
+      base = s.base ∙ ap genesis_state (sym s.genesis);
+      chain = chain_of rows p.number (started p blocks).number p.genesis (started p blocks).genesis blocks (started p blocks).blocks s.number s.genesis s.blocks_are h;
+    }
+
+pub new_started_has : (rows : Rows) (number : ℕ) (g : Genesis) (blocks : List Block) → IsChain rows number g blocks → HasRows rows (started (new_node number g) blocks)
+new_started_has rows number g blocks h =
+    let r = new_root number g in
+    started_has rows (new_node number g) blocks (chain_of rows number (new_node number g).number g (new_node number g).genesis blocks blocks r.0 r.1 refl h)
+
+-- the rows of a node stay its rows when another one's row is set
+pub other_has : (rows : Rows) (m height : ℕ) (bytes : List ℕ) (p : Node) → (p.number == m) ≡ false → HasRows rows p → HasRows (insert rows (place_of m height) bytes) p
+other_has rows m height bytes p apart h = record { base = h.base; chain = chain_stays rows m p.number height bytes p.genesis p.blocks apart h.chain }
+
+-- the value of a good result
+pub ok_of : {A E : Type 0} (r : Result A E) → IsOk r → (x : A) × (r ≡ Ok x)
+ok_of (Ok x) h = (x, refl)
+ok_of (Err e) h = absurd (let i : false ≡ true = h in cc)
+
+-- the blocks of a chain are good
+pub chain_folds : (rows : Rows) (node : ℕ) (g : Genesis) (bs : List Block) → kept g rows node ≡ Ok bs → (s : State) × (fold_blocks g bs ≡ Ok s)
+chain_folds rows node g bs e = ok_of (fold_blocks g bs) (kept_is_chain rows node g bs e).good
+
+adopted_same : (p : Node) (b : Block) (s : State) (results : List ℕ)
+    → ((adopted p b s results).number ≡ p.number) × ((adopted p b s results).genesis ≡ p.genesis) × ((adopted p b s results).base ≡ p.base) × ((adopted p b s results).blocks ≡ p.blocks ++ b ∷ [])
+unfolding adopted
+adopted_same p b s results = (refl, refl, refl, refl)
+
+-- a commit makes the rows of the node those of its longer chain
+pub committed_has : (rows : Rows) (p : Node) (b : Block) (q : Node × List ℕ) → HasRows rows p → fold_blocks p.genesis p.blocks ≡ Ok (committed p) → commit p b ≡ Ok q → FitsBlock b
+    → HasRows (insert rows (place_of p.number b.height) (block_bytes b)) (placed_again q.0)
+committed_has rows p b q h folded e fits =
+    let d = committed_is p b q e in
+    let a = adopted_same p b d.0.0 d.0.1 in
+    let x = adopted p b d.0.0 d.0.1 in
+    let after = insert rows (place_of p.number b.height) (block_bytes b) in
+    let grown : IsChain after p.number p.genesis (p.blocks ++ b ∷ []) = chain_grows rows p.number p.genesis p.blocks (committed p) b d.0 h.chain folded d.1 fits in
+    let has : HasRows after x = record {
+      base = a.2 ∙ h.base ∙ ap genesis_state (sym a.1);
+      chain = chain_of after p.number x.number p.genesis x.genesis (p.blocks ++ b ∷ []) x.blocks a.0 a.1 a.3 grown;
+    } in
+    let same : HasRows after q.0 = subst (HasRows after) d.2 has in
+    same_rows_have after q.0 (placed_again q.0) (placed_same q.0) same
+
+-- one number more behind others
+pub range_split : (a i more : ℕ) → range_with_len a (i + suc more) ≡ range_with_len a i ++ (a + i) ∷ range_with_len (a + i + 1) more
+range_split a zero more =
+    let none : a ≡ a + 0 = omega arith in
+    let all : 0 + suc more ≡ suc more = omega arith in
+    ap (range_with_len a) all ∙ ap (λ (k : ℕ). k ∷ range_with_len (k + 1) more) none
+range_split a (suc i) more =
+    let all : suc i + suc more ≡ suc (i + suc more) = omega arith in
+    let on : a + 1 + i ≡ a + suc i = omega arith in
+    ap (range_with_len a) all ∙ ap (λ (xs : List ℕ). a ∷ xs) (range_split (a + 1) i more) ∙ ap (λ (k : ℕ). a ∷ (range_with_len (a + 1) i ++ k ∷ range_with_len (k + 1) more)) on
+
+pub range_more : (i : ℕ) → range_with_len 0 (i + 1) ≡ range_with_len 0 i ++ i ∷ []
+range_more i =
+    let none : 0 + i ≡ i = omega arith in
+    range_split 0 i 0 ∙ ap (λ (k : ℕ). range_with_len 0 i ++ k ∷ []) none
+
+-- the rows behind one more start
+pub begun_more : (g : Genesis) (rows : Rows) (i : ℕ) → begun_all g rows (range_with_len 0 (i + 1)) ≡ begun (begun_all g rows (range_with_len 0 i)) i g
+begun_more g rows i = ap (begun_all g rows) (range_more i) ∙ fold-append (λ (before : Rows) (number : ℕ). begun before number g) rows (range_with_len 0 i) (i ∷ [])
+
+-- what is kept of a node stays so behind the start of another
+kept_begun : (g : Genesis) (rows : Rows) (i m : ℕ) (t : Bool) → (row_count rows i == 0) ≡ t → (m == i) ≡ false → kept g (begun rows i g) m ≡ kept g rows m
+kept_begun g rows i m true e apart = ap (λ (b : Bool). kept g (cond b (insert rows (place_of i 0) (digest_of g)) rows) m) e ∙ kept_stays rows i m 0 (digest_of g) g apart
+kept_begun g rows i m false e apart = ap (λ (b : Bool). kept g (cond b (insert rows (place_of i 0) (digest_of g)) rows) m) e
+
+apart_from : (m i : ℕ) → i < m → (m == i) ≡ false
+apart_from m i h = grind (arith, nat_tests, h)
+
+apart_too : (m i : ℕ) → m < i → (m == i) ≡ false
+apart_too m i h = grind (arith, nat_tests, h)
+
+pub kept_behind : (g : Genesis) (rows : Rows) (i m : ℕ) → i ≤ m → kept g (begun_all g rows (range_with_len 0 i)) m ≡ kept g rows m
+kept_behind g rows zero m h = refl
+kept_behind g rows (suc i) m h =
+    let one : suc i ≡ i + 1 = omega arith in
+    let before = begun_all g rows (range_with_len 0 i) in
+    ap (λ (n : ℕ). kept g (begun_all g rows (range_with_len 0 n)) m) one
+    ∙ ap (λ (r : Rows). kept g r m) (begun_more g rows i)
+    ∙ kept_begun g before i m (row_count before i == 0) refl (apart_from m i (omega (arith, h)))
+    ∙ kept_behind g rows i m (omega (arith, h))
+
+chain_begun : (g : Genesis) (rows : Rows) (i m : ℕ) (bs : List Block) (t : Bool) → (row_count rows i == 0) ≡ t → (m == i) ≡ false → IsChain rows m g bs → IsChain (begun rows i g) m g bs
+chain_begun g rows i m bs true e apart h = subst (λ (b : Bool). IsChain (cond b (insert rows (place_of i 0) (digest_of g)) rows) m g bs) (sym e) (chain_stays rows i m 0 (digest_of g) g bs apart h)
+chain_begun g rows i m bs false e apart h = subst (λ (b : Bool). IsChain (cond b (insert rows (place_of i 0) (digest_of g)) rows) m g bs) (sym e) h
+
+-- the last node that starts, or one before it
+chain_next : (g : Genesis) (rows before : Rows) (i m : ℕ) (bs : List Block) (t : Bool) → (m == i) ≡ t → (m < i → IsChain before m g bs) → m < suc i
+    → kept g before i ≡ kept g rows i → kept g rows m ≡ Ok bs → IsChain (begun before i g) m g bs
+chain_next g rows before i m bs true k earlier h same e =
+    let one : m ≡ i = eqb-true m i k in
+    subst (λ (n : ℕ). IsChain (begun before i g) n g bs) (sym one) (kept_is_chain before i g bs (same ∙ ap (kept g rows) (sym one) ∙ e))
+chain_next g rows before i m bs false k earlier h same e = chain_begun g before i m bs (row_count before i == 0) refl k (earlier (smaller m i k h))
+  where
+    smaller : (m i : ℕ) → (m == i) ≡ false → m < suc i → m < i
+    smaller m i k h = grind (arith, nat_tests, k, h)
+
+-- the rows of a started node are those of its chain, whichever nodes start after it
+pub chain_behind : (g : Genesis) (rows : Rows) (count m : ℕ) (bs : List Block) → m < count → kept g rows m ≡ Ok bs → IsChain (begun_all g rows (range_with_len 0 count)) m g bs
+chain_behind g rows zero m bs h e = absurd (omega (arith, h))
+chain_behind g rows (suc i) m bs h e =
+    let one : suc i ≡ i + 1 = omega arith in
+    let before = begun_all g rows (range_with_len 0 i) in
+    let all : begun_all g rows (range_with_len 0 (suc i)) ≡ begun before i g = ap (λ (n : ℕ). begun_all g rows (range_with_len 0 n)) one ∙ begun_more g rows i in
+    subst (λ (r : Rows). IsChain r m g bs) (sym all)
+    (chain_next g rows before i m bs (m == i) refl (λ less. chain_behind g rows i m bs less e) h (kept_behind g rows i i (omega arith)) e)
+
+-- where a chain is kept a start sets no row
+pub begun_stays : (rows : Rows) (node : ℕ) (g k : Genesis) (bs : List Block) → IsChain rows node k bs → begun rows node g ≡ rows
+begun_stays rows node g k bs h =
+    let some : (row_count rows node == 0) ≡ false = ap (λ (n : ℕ). n == 0) h.count ∙ more (length bs) in
+    ap (λ (b : Bool). cond b (insert rows (place_of node 0) (digest_of g)) rows) some
+  where
+    more : (n : ℕ) → (n + 1 == 0) ≡ false
+    more n = grind (arith, nat_tests)
