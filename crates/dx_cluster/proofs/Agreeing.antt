@@ -6,6 +6,8 @@ use Rattle.dx_types.specs.declared.SubaccountId.{SubaccountId}
 use Rattle.dx_types.specs.declared.OrderId.{OrderId}
 use Rattle.dx_types.specs.declared.Block.{Block}
 use Rattle.dx_types.specs.declared.Bad.{Bad}
+use Rattle.sha2.specs.Sha256.{sha256}
+use Rattle.dx_codec.specs.States.{state_bytes}
 use Rattle.dx_spec.specs.Step.{◌>>=◌}
 use Rattle.dx_spec.specs.State.{State, filled_of}
 use Rattle.dx_spec.specs.Blocks.{block_step}
@@ -18,9 +20,11 @@ use Rattle.dx_scenario.specs.Events.{word_of}
 use Rattle.dx_print.specs.declared.answer.Answer.{Answer}
 use Rattle.dx_print.specs.declared.answer.Answer.TheVariants as answers
 use Rattle.dx_cluster.specs.Stored.{Stored}
-use Rattle.dx_cluster.specs.Acts.{check_answer, check_slot, commit_answer, commit_slot, balance_answer, tell_balance, tell_filled, tell_audit}
+use Rattle.dx_cluster.specs.Acts.{check_answer, check_slot, commit_answer, commit_slot, balance_answer, tell_balance, tell_filled, tell_audit, tell_digest, show_slot, restart_node, height_of}
 use Rattle.dx_cluster.specs.World.{World, node_acts, act_at, acted, step}
 use Rattle.dx_cluster.specs.Laws.{IsFold, states_after, is_of_committed, AreAlike, committed_amount, CommittedRepliesAgree}
+use Rattle.dx_speculation.proofs.Committing.{restarted_is}
+use Rattle.dx_cluster.proofs.Everywhere.{all_at}
 use Rattle.dx_cluster.proofs.Keeping.{only_commits_count}
 
 -- two nodes, where both are there, have the same committed state
@@ -77,17 +81,35 @@ of_balance who = λ p q e. ap (λ (s : State). balance_answer s.clock.height (ge
 of_audit : IsOfState tell_audit
 of_audit = λ p q e. ap (λ s. answers.Audit (audit s)) e
 
+of_digest : IsOfState tell_digest
+of_digest = λ p q e. ap (λ (s : State). answers.Digest s.clock.height (sha256 (state_bytes s))) e
+
+-- a restart tells the height of the committed state
+restart_says : (p : Node) → IsFold p → (restart_node p).1 ≡ answers.Done (Some (height_of p))
+restart_says p h = ap (λ (s : State). answers.Done (Some s.clock.height)) (restarted_is p p.blocks (committed p) h.folded)
+
+restarts_agree : (w v : World) (o u : Option Node) (node : ℕ) → slice_get w.nodes node ≡ o → slice_get v.nodes node ≡ u → All IsFold w.nodes → All IsFold v.nodes → SameState o u
+    → (node_acts w o node restart_node).1 ≡ (node_acts v u node restart_node).1
+restarts_agree w v None None node d e h k s = refl
+restarts_agree w v (Some p) (Some q) node d e h k s =
+    restart_says p (all_at IsFold w.nodes node p d h) ∙ ap (λ (s : State). answers.Done (Some s.clock.height)) s ∙ sym (restart_says q (all_at IsFold v.nodes node q e k))
+restarts_agree w v None (Some q) node d e h k s = absurd s
+restarts_agree w v (Some p) None node d e h k s = absurd s
+
 -- the blocks of both worlds' slots are the same
 slots_agree : (w v : World) (slot : ℕ) → AreAlike w v → get w.slots slot ≡ get v.slots slot
 slots_agree w v slot a = ap (λ (m : Stored). get m slot) a.slots
 
-answers_agree : (w v : World) (event : Event) → AreAlike w v → IsTrue (is_of_committed event) → (acted w event).1 ≡ (acted v event).1
-answers_agree w v (events.Handed slot b) a t = refl
-answers_agree w v (events.Check node slot) a t = acts_agree w v node (check_slot (get w.slots slot)) a (of_check (get w.slots slot)) ∙ ap (λ o. (act_at v node (check_slot o)).1) (slots_agree w v slot a)
-answers_agree w v (events.Commit node slot) a t = acts_agree w v node (commit_slot (get w.slots slot)) a (of_commit (get w.slots slot)) ∙ ap (λ o. (act_at v node (commit_slot o)).1) (slots_agree w v slot a)
-answers_agree w v (events.Balance node who) a t = acts_agree w v node (tell_balance who) a (of_balance who)
-answers_agree w v (events.Audit node) a t = acts_agree w v node tell_audit a of_audit
-answers_agree w v event a t = absurd (cc)
+answers_agree : (w v : World) (event : Event) → All IsFold w.nodes → All IsFold v.nodes → AreAlike w v → IsTrue (is_of_committed event) → (acted w event).1 ≡ (acted v event).1
+answers_agree w v (events.Handed slot b) h k a t = refl
+answers_agree w v (events.Check node slot) h k a t = acts_agree w v node (check_slot (get w.slots slot)) a (of_check (get w.slots slot)) ∙ ap (λ o. (act_at v node (check_slot o)).1) (slots_agree w v slot a)
+answers_agree w v (events.Commit node slot) h k a t = acts_agree w v node (commit_slot (get w.slots slot)) a (of_commit (get w.slots slot)) ∙ ap (λ o. (act_at v node (commit_slot o)).1) (slots_agree w v slot a)
+answers_agree w v (events.Balance node who) h k a t = acts_agree w v node (tell_balance who) a (of_balance who)
+answers_agree w v (events.Audit node) h k a t = acts_agree w v node tell_audit a of_audit
+answers_agree w v (events.Show slot) h k a t = ap show_slot (slots_agree w v slot a)
+answers_agree w v (events.Digest node) h k a t = acts_agree w v node tell_digest a of_digest
+answers_agree w v (events.Restart node) h k a t = restarts_agree w v (slice_get w.nodes node) (slice_get v.nodes node) node refl refl h k (same_state w.nodes v.nodes node a.states)
+answers_agree w v event h k a t = absurd (cc)
 
 -- a node's act leaves the slots
 slots_stay : (w : World) (o : Option Node) (node : ℕ) (act : Node → Node × Answer) → (node_acts w o node act).0.slots ≡ w.slots
@@ -103,6 +125,9 @@ later_slots w v (events.Check node slot) a t = both_stay w v node (check_slot (g
 later_slots w v (events.Commit node slot) a t = both_stay w v node (commit_slot (get w.slots slot)) (commit_slot (get v.slots slot)) a
 later_slots w v (events.Balance node who) a t = both_stay w v node (tell_balance who) (tell_balance who) a
 later_slots w v (events.Audit node) a t = both_stay w v node tell_audit tell_audit a
+later_slots w v (events.Show slot) a t = a.slots
+later_slots w v (events.Digest node) a t = both_stay w v node tell_digest tell_digest a
+later_slots w v (events.Restart node) a t = both_stay w v node restart_node restart_node a
 later_slots w v event a t = absurd (cc)
 
 -- alike worlds stay so at an event that leaves both slots the same
@@ -127,7 +152,7 @@ same_amount w v (Some p) None node id h = absurd h
 pub committed_replies_agree : CommittedRepliesAgree
 committed_replies_agree w v h k a = (
   λ event t. (
-    ap (λ (answer : Answer). record { word = word_of event; answer = answer }) (answers_agree w v event a t),
+    ap (λ (answer : Answer). record { word = word_of event; answer = answer }) (answers_agree w v event h k a t),
     later_alike w v event h k a (later_slots w v event a t),
   ),
   λ node id. (

@@ -1,5 +1,5 @@
 -- The rows of a node are just those of its blocks: when it starts, when it commits, and when others do.
-use Rattle.std.proofs.Common.{◌≡◌, ◌<◌, ◌≤◌, ◌+◌, ◌==◌, ℕ, zero, suc, Bool, true, false, cond, List, [], ◌∷◌, ◌++◌, length, arith, refl, sym, ap, subst, ◌∙◌, add-one, Some, Result, Ok, Err}
+use Rattle.std.proofs.Common.{◌≡◌, ◌<◌, ◌≤◌, ◌+◌, ◌==◌, ℕ, zero, suc, Bool, true, false, cond, List, [], ◌∷◌, ◌++◌, length, arith, refl, sym, ap, subst, ◌∙◌, Option, Some, None, Result, Ok, Err}
 use Rattle.std.specs.Prelude.{IsOk}
 use Rattle.std.specs.List.{range_with_len, fold}
 use Rattle.std.specs.FinMap.{insert}
@@ -16,13 +16,14 @@ use Rattle.dx_codec.specs.Blocks.{block_bytes, FitsBlock}
 use Rattle.dx_codec.specs.Genesis.{digest_of}
 use Rattle.dx_history.specs.Rows.{place_of}
 use Rattle.dx_history.specs.Chains.{IsChain, kept, begun}
-use Rattle.dx_history.proofs.Laws.{kept_is_chain, chain_grows, chain_stays, kept_stays}
+use Rattle.dx_history.proofs.Starting.{read_chain, chain_grown, other_chain, other_kept}
 use Rattle.dx_node_spec.specs.Node.{Node, new_node, committed}
 use Rattle.dx_node_spec.specs.Commits.{adopted, commit, replay_next, placed_again, restarted}
 use Rattle.dx_speculation.specs.Faithful.{SameBlocks}
 use Rattle.dx_speculation.specs.NodeEvents.{Replaying}
 use Rattle.dx_speculation.proofs.Roots.{other_events_keep_blocks}
 use Rattle.dx_speculation.proofs.Outcomes.{committed_is}
+use Rattle.dx_node.specs.Restarts.{BeginsRows}
 use Rattle.dx_cluster.specs.Acts.{started}
 use Rattle.dx_cluster.specs.World.{begun_all, HasRows}
 use Rattle.dx_cluster.proofs.Living.{list_keeps}
@@ -86,7 +87,7 @@ new_started_has rows number g blocks h =
 
 -- the rows of a node stay its rows when another one's row is set
 pub other_has : (rows : Rows) (m height : ℕ) (bytes : List ℕ) (p : Node) → (p.number == m) ≡ false → HasRows rows p → HasRows (insert rows (place_of m height) bytes) p
-other_has rows m height bytes p apart h = record { base = h.base; chain = chain_stays rows m p.number height bytes p.genesis p.blocks apart h.chain }
+other_has rows m height bytes p apart h = record { base = h.base; chain = other_chain rows m p.number height bytes p.genesis p.blocks apart h.chain }
 
 -- the value of a good result
 pub ok_of : {A E : Type 0} (r : Result A E) → IsOk r → (x : A) × (r ≡ Ok x)
@@ -95,7 +96,7 @@ ok_of (Err e) h = absurd (let i : false ≡ true = h in cc)
 
 -- the blocks of a chain are good
 pub chain_folds : (rows : Rows) (node : ℕ) (g : Genesis) (bs : List Block) → kept g rows node ≡ Ok bs → (s : State) × (fold_blocks g bs ≡ Ok s)
-chain_folds rows node g bs e = ok_of (fold_blocks g bs) (kept_is_chain rows node g bs e).good
+chain_folds rows node g bs e = ok_of (fold_blocks g bs) (read_chain rows node g bs e).good
 
 adopted_same : (p : Node) (b : Block) (s : State) (results : List ℕ)
     → ((adopted p b s results).number ≡ p.number) × ((adopted p b s results).genesis ≡ p.genesis) × ((adopted p b s results).base ≡ p.base) × ((adopted p b s results).blocks ≡ p.blocks ++ b ∷ [])
@@ -110,13 +111,30 @@ committed_has rows p b q h folded e fits =
     let a = adopted_same p b d.0.0 d.0.1 in
     let x = adopted p b d.0.0 d.0.1 in
     let after = insert rows (place_of p.number b.height) (block_bytes b) in
-    let grown : IsChain after p.number p.genesis (p.blocks ++ b ∷ []) = chain_grows rows p.number p.genesis p.blocks (committed p) b d.0 h.chain folded d.1 fits in
+    let grown : IsChain after p.number p.genesis (p.blocks ++ b ∷ []) = chain_grown rows p.number p.genesis p.blocks (committed p) b d.0 h.chain folded d.1 fits in
     let has : HasRows after x = record {
       base = a.2 ∙ h.base ∙ ap genesis_state (sym a.1);
       chain = chain_of after p.number x.number p.genesis x.genesis (p.blocks ++ b ∷ []) x.blocks a.0 a.1 a.3 grown;
     } in
     let same : HasRows after q.0 = subst (HasRows after) d.2 has in
     same_rows_have after q.0 (placed_again q.0) (placed_same q.0) same
+
+-- a node that has committed a block has it behind its others
+pub record Grows (p : Node) (b : Block) (q : Node) : Type 0 where
+  pub number : q.number ≡ p.number
+  pub genesis : q.genesis ≡ p.genesis
+  pub blocks : q.blocks ≡ p.blocks ++ b ∷ []
+
+pub committed_grows : (p : Node) (b : Block) (q : Node × List ℕ) → commit p b ≡ Ok q → Grows p b (placed_again q.0)
+committed_grows p b q e =
+    let d = committed_is p b q e in
+    let a = adopted_same p b d.0.0 d.0.1 in
+    let s = placed_same q.0 in
+    record {
+      number = s.number ∙ ap (λ (x : Node). x.number) (sym d.2) ∙ a.0;
+      genesis = s.genesis ∙ ap (λ (x : Node). x.genesis) (sym d.2) ∙ a.1;
+      blocks = s.blocks ∙ ap (λ (x : Node). x.blocks) (sym d.2) ∙ a.3;
+    }
 
 -- one number more behind others
 pub range_split : (a i more : ℕ) → range_with_len a (i + suc more) ≡ range_with_len a i ++ (a + i) ∷ range_with_len (a + i + 1) more
@@ -140,7 +158,7 @@ begun_more g rows i = ap (begun_all g rows) (range_more i) ∙ fold-append (λ (
 
 -- what is kept of a node stays so behind the start of another
 kept_begun : (g : Genesis) (rows : Rows) (i m : ℕ) (t : Bool) → (row_count rows i == 0) ≡ t → (m == i) ≡ false → kept g (begun rows i g) m ≡ kept g rows m
-kept_begun g rows i m true e apart = ap (λ (b : Bool). kept g (cond b (insert rows (place_of i 0) (digest_of g)) rows) m) e ∙ kept_stays rows i m 0 (digest_of g) g apart
+kept_begun g rows i m true e apart = ap (λ (b : Bool). kept g (cond b (insert rows (place_of i 0) (digest_of g)) rows) m) e ∙ other_kept rows i m 0 (digest_of g) g apart
 kept_begun g rows i m false e apart = ap (λ (b : Bool). kept g (cond b (insert rows (place_of i 0) (digest_of g)) rows) m) e
 
 apart_from : (m i : ℕ) → i < m → (m == i) ≡ false
@@ -160,7 +178,7 @@ kept_behind g rows (suc i) m h =
     ∙ kept_behind g rows i m (omega (arith, h))
 
 chain_begun : (g : Genesis) (rows : Rows) (i m : ℕ) (bs : List Block) (t : Bool) → (row_count rows i == 0) ≡ t → (m == i) ≡ false → IsChain rows m g bs → IsChain (begun rows i g) m g bs
-chain_begun g rows i m bs true e apart h = subst (λ (b : Bool). IsChain (cond b (insert rows (place_of i 0) (digest_of g)) rows) m g bs) (sym e) (chain_stays rows i m 0 (digest_of g) g bs apart h)
+chain_begun g rows i m bs true e apart h = subst (λ (b : Bool). IsChain (cond b (insert rows (place_of i 0) (digest_of g)) rows) m g bs) (sym e) (other_chain rows i m 0 (digest_of g) g bs apart h)
 chain_begun g rows i m bs false e apart h = subst (λ (b : Bool). IsChain (cond b (insert rows (place_of i 0) (digest_of g)) rows) m g bs) (sym e) h
 
 -- the last node that starts, or one before it
@@ -168,7 +186,7 @@ chain_next : (g : Genesis) (rows before : Rows) (i m : ℕ) (bs : List Block) (t
     → kept g before i ≡ kept g rows i → kept g rows m ≡ Ok bs → IsChain (begun before i g) m g bs
 chain_next g rows before i m bs true k earlier h same e =
     let one : m ≡ i = eqb-true m i k in
-    subst (λ (n : ℕ). IsChain (begun before i g) n g bs) (sym one) (kept_is_chain before i g bs (same ∙ ap (kept g rows) (sym one) ∙ e))
+    subst (λ (n : ℕ). IsChain (begun before i g) n g bs) (sym one) (read_chain before i g bs (same ∙ ap (kept g rows) (sym one) ∙ e))
 chain_next g rows before i m bs false k earlier h same e = chain_begun g before i m bs (row_count before i == 0) refl k (earlier (smaller m i k h))
   where
     smaller : (m i : ℕ) → (m == i) ≡ false → m < suc i → m < i
@@ -192,3 +210,11 @@ begun_stays rows node g k bs h =
   where
     more : (n : ℕ) → (n + 1 == 0) ≡ false
     more n = grind (arith, nat_tests)
+
+-- the rows behind a start
+pub begins_are : (before after : Option Rows) (rows : Rows) (p : Node) → before ≡ Some rows → BeginsRows before after p → after ≡ Some (begun rows p.number p.genesis)
+begins_are before after rows p e b = told after (subst (λ (o : Option Rows). BeginsRows o after p) e b)
+  where
+    told : (after : Option Rows) → BeginsRows (Some rows) after p → after ≡ Some (begun rows p.number p.genesis)
+    told None b = absurd b
+    told (Some now) b = ap Some b

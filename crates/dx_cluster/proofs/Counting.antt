@@ -1,19 +1,24 @@
 -- How many nodes there are, whatever happens.
-use Rattle.std.proofs.Common.{◌≡◌, ℕ, length, refl, ap, Option, Some, None}
+use Rattle.std.proofs.Common.{◌≡◌, ℕ, length, refl, sym, ap, ◌∙◌, Option, Some, None, Ok}
 use Rattle.std.specs.Prelude.{slice_get}
 use Rattle.std.proofs.lemmas.List.{length-set}
-use Rattle.std.proofs.lemmas.List.FromFn.{length-map-range_with_len}
+use Rattle.std.specs.List.{range_with_len}
+use Rattle.std.proofs.lemmas.List.FromFn.{length-range_with_len}
 use Rattle.dx_types.specs.declared.Genesis.{Genesis}
-use Rattle.dx_node_spec.specs.Node.{Node, new_node}
+use Rattle.dx_io.specs.Rows.{Rows}
+use Rattle.dx_node_spec.specs.Node.{Node}
 use Rattle.dx_scenario.specs.declared.event.Event.{Event}
 use Rattle.dx_scenario.specs.declared.event.Event.TheVariants as events
 use Rattle.dx_print.specs.declared.answer.Answer.{Answer}
-use Rattle.dx_cluster.specs.World.{World, world_of, node_acts, act_at, step}
+use Rattle.dx_cluster.specs.World.{World, opened, node_acts, act_at, step}
 use Rattle.dx_cluster.proofs.Keeping.{propose_nodes}
+use Rattle.dx_cluster.proofs.Opening.{nodes_long, opened_made}
 
 -- at first there are as many as the genesis line says
-pub world_count : (nodes : ℕ) (g : Genesis) → length (world_of nodes g).nodes ≡ nodes
-world_count nodes g = length-map-range_with_len (λ number. new_node number g) 0 nodes
+pub world_count : (count : ℕ) (g : Genesis) (rows : Rows) (w : World) → opened count g rows ≡ Ok w → length w.nodes ≡ count
+world_count count g rows w e =
+    let o = opened_made count g rows w e in
+    ap (λ (v : World). length v.nodes) (sym o.are) ∙ nodes_long g rows (range_with_len 0 count) o.nodes o.made ∙ length-range_with_len 0 count
 
 -- a node acts, and there are as many as before
 node_keeps : (w : World) (o : Option Node) (node : ℕ) (act : Node → Node × Answer) → length (node_acts w o node act).0.nodes ≡ length w.nodes

@@ -1,5 +1,5 @@
 -- What holds of each node of a list.
-use Rattle.std.proofs.Common.{◌≡◌, ◌<◌, ◌≤◌, ◌+◌, ◌==◌, ℕ, zero, suc, false, List, [], ◌∷◌, map, length, arith, subst, sym, ap, ◌∙◌, refl, Some}
+use Rattle.std.proofs.Common.{◌≡◌, ◌<◌, ◌≤◌, ◌+◌, ◌==◌, ℕ, zero, suc, false, List, [], ◌∷◌, ◌++◌, map, length, arith, subst, sym, ap, ◌∙◌, refl, Some}
 use Rattle.std.specs.Prelude.{slice_get, slice_set, All}
 use Rattle.std.specs.List.{AllZip, range_with_len}
 use Rattle.std.proofs.lemmas.Bool.Decides.{nat_tests}
@@ -17,6 +17,11 @@ module _ (P : Node → Type 0) where
   -- at one of them
   pub all_at : (ps : List Node) (n : ℕ) (p : Node) → slice_get ps n ≡ Some p → All P ps → P p
   all_at ps n p e h = subst P (get_or_from_slice_get ps n p p e) (h n p (slice_get_within ps n p e))
+
+  -- where there is one more behind them
+  pub all_more : (ps : List Node) (p : Node) → All P ps → P p → All P (ps ++ p ∷ [])
+  all_more [] p h g = All-cons P p [] g (All-nil P)
+  all_more (q ∷ ps) p h g = All-cons P q (ps ++ p ∷ []) (All-head P q ps h) (all_more ps p (All-tail P q ps h) g)
 
   -- what holds of a node holds of the one that it becomes, and so of all
   pub all_along : (ps qs : List Node) → AllZip (λ p q. P p → P q) ps qs → All P ps → All P qs

@@ -6,16 +6,15 @@ use Rattle.dx_types.specs.declared.Order.{Order}
 use Rattle.dx_types.specs.declared.Msg.{Msg}
 use Rattle.dx_types.specs.declared.Block.{Block}
 use Rattle.dx_types.specs.declared.Bad.{Bad}
-use Rattle.dx_types.specs.declared.Genesis.{Genesis}
-use Rattle.dx_node_spec.specs.Node.{Node, new_node}
+use Rattle.dx_node_spec.specs.Node.{Node}
 use Rattle.dx_node_spec.specs.Placing.{place}
 use Rattle.dx_node_spec.specs.Events.{fed, pooled, cancel, cancel_all, orders_of, sweep}
-use Rattle.dx_node_spec.specs.Commits.{commit}
+use Rattle.dx_node_spec.specs.Commits.{commit, restarted}
 use Rattle.dx_speculation.specs.NodeEvents.{NodeEvent, Placing, Cancelling, CancellingAll, Pooling, Feeding, Sweeping, Committing, Replaying, after as node_after}
 use Rattle.dx_speculation.proofs.Outcomes.{placed_is_taken, cancelled_is, cancels-keep, cancelled_all_is, pooled_is, fed_is, swept_is}
 use Rattle.dx_speculation.proofs.Replaying.{taken_keeps_list, placing_all_empties_list}
 use Rattle.dx_speculation.proofs.NodeEvents.{node_has, itself_has, sweep_has}
-use Rattle.dx_cluster.specs.Acts.{place_order, cancel_order, cancel_orders, feed_price, pool_message, sweep_account, commit_answer, commit_slot}
+use Rattle.dx_cluster.specs.Acts.{place_order, cancel_order, cancel_orders, feed_price, pool_message, sweep_account, commit_answer, commit_slot, started}
 use Rattle.dx_cluster.specs.World.{IsIdle}
 use Rattle.dx_cluster.proofs.Living.{placed_node, cancelled_node, all_cancelled_node, done_node, swept_node}
 
@@ -65,6 +64,6 @@ pub committing_idle : (o : Option Block) (p : Node) → IsIdle p → IsIdle (com
 committing_idle None p h = h
 committing_idle (Some b) p h = commit_idle p b (commit p b) h
 
-pub new_idle : (number : ℕ) (g : Genesis) → IsIdle (new_node number g)
-unfolding new_node
-new_idle number g = refl
+-- a start places its whole list
+pub started_idle : (p : Node) (blocks : List Block) → IsIdle (started p blocks)
+started_idle p blocks = placing_all_empties_list (restarted p blocks)

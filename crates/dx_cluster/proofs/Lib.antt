@@ -2,8 +2,14 @@ pub mod Counts
 pub mod Everywhere
 pub mod Worlds
 pub mod Living
+pub mod Chains
+pub mod Opening
+pub mod Beginning
 pub mod Keeping
 pub mod Agreeing
 pub mod Counting
 pub mod Idling
 pub mod Turns
+pub mod Kept
+pub mod Rowed
+pub mod Resuming

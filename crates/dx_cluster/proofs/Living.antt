@@ -15,7 +15,7 @@ use Rattle.dx_spec.specs.Blocks.{block_step, fold_blocks, fold_from}
 use Rattle.dx_node_spec.specs.Node.{Node, new_node, committed}
 use Rattle.dx_node_spec.specs.Placing.{Outcome, AllFilled, Rested, Dropped, Stopped, Refusal, place}
 use Rattle.dx_node_spec.specs.Events.{fed, pooled, cancel, cancel_all, sweep}
-use Rattle.dx_node_spec.specs.Commits.{adopted, commit, replay_next, placed_again, after_turns}
+use Rattle.dx_node_spec.specs.Commits.{adopted, commit, replay_next, placed_again, after_turns, restarted}
 use Rattle.dx_speculation.specs.Faithful.{IsFaithful}
 use Rattle.dx_speculation.specs.NodeEvents.{NodeEvent, Placing, Cancelling, CancellingAll, Pooling, Feeding, Sweeping, Replaying, IsNoCommit, node_of, itself_or, swept_or, after as node_after}
 use Rattle.dx_speculation.proofs.Nodes.{fold_more, new_node_is_faithful}
@@ -24,10 +24,10 @@ use Rattle.dx_speculation.proofs.NodeEvents.{every_event_keeps_faithful}
 use Rattle.dx_speculation.proofs.Roots.{other_events_keep_blocks}
 use Rattle.dx_speculation.proofs.Stopping.{placing_stops_by_risk}
 use Rattle.dx_speculation.proofs.Outcomes.{committed_is}
-use Rattle.dx_speculation.proofs.Committing.{committing_keeps_faithful}
+use Rattle.dx_speculation.proofs.Committing.{committing_keeps_faithful, restarted_is, restarting_is_faithful}
 use Rattle.dx_speculation.proofs.Replaying.{replaying_places_again}
 use Rattle.dx_speculation.proofs.Proposals.{proposal_is_good}
-use Rattle.dx_cluster.specs.Acts.{outcome_answer, place_answer, place_order, cancel_answer, cancel_order, cancel_all_answer, cancel_orders, done_answer, feed_price, pool_message, sweep_answer, sweep_account, commit_answer, commit_slot}
+use Rattle.dx_cluster.specs.Acts.{outcome_answer, place_answer, place_order, cancel_answer, cancel_order, cancel_all_answer, cancel_orders, done_answer, feed_price, pool_message, sweep_answer, sweep_account, commit_answer, commit_slot, started, restart_node}
 use Rattle.dx_cluster.specs.Laws.{IsFold, state_or, after_block, IsInOrder, StopsByRisk, ProposesGood}
 
 -- the committed state of a node and its fold, where the committed state comes to be another
@@ -131,9 +131,27 @@ pub committing_folds : (o : Option Block) (p : Node) → IsFold p → FoldsTo (c
 committing_folds None p h = (h, refl)
 committing_folds (Some b) p h = commit_folds p b (commit p b) refl h
 
-pub new_folds : (number : ℕ) (g : Genesis) → IsFold (new_node number g)
-unfolding new_node committed fold_from
-new_folds number g = record { base = refl; folded = refl }
+-- a node that starts anew from good blocks has their fold as its committed state
+restarted_folds : (p : Node) (blocks : List Block) (t : State) → fold_blocks p.genesis blocks ≡ Ok t → FoldsTo (restarted p blocks) t
+unfolding restarted
+restarted_folds p blocks t e =
+    let same : committed (restarted p blocks) ≡ t = restarted_is p blocks t e in
+    (record { base = refl; folded = e ∙ ap Ok (sym same) }, same)
+
+pub started_folds : (p : Node) (blocks : List Block) (t : State) → fold_blocks p.genesis blocks ≡ Ok t → FoldsTo (started p blocks) t
+started_folds p blocks t e = list_keeps (λ x. FoldsTo x t) (turn_folds t) (restarted p blocks) (restarted_folds p blocks t e)
+
+-- so a restart leaves the committed state
+pub restarting_folds : (p : Node) → IsFold p → FoldsTo (restart_node p).0 (committed p)
+restarting_folds p h = started_folds p p.blocks (committed p) h.folded
+
+-- a new node has its genesis
+new_genesis : (number : ℕ) (g : Genesis) → (new_node number g).genesis ≡ g
+unfolding new_node
+new_genesis number g = refl
+
+pub new_started_folds : (number : ℕ) (g : Genesis) (blocks : List Block) (t : State) → fold_blocks g blocks ≡ Ok t → IsFold (started (new_node number g) blocks)
+new_started_folds number g blocks t e = (started_folds (new_node number g) blocks t (ap (λ (x : Genesis). fold_blocks x blocks) (new_genesis number g) ∙ e)).0
 
 -- a node of a genesis in its ranges
 pub record Lives (p : Node) : Type 0 where
@@ -170,9 +188,27 @@ pub committing_lives : (o : Option Block) (p : Node) → Lives p → Lives (comm
 committing_lives None p h = h
 committing_lives (Some b) p h = commit_lives p b (commit p b) refl h
 
-pub new_lives : (number : ℕ) (g : Genesis) → IsGenesis g → Lives (new_node number g)
-unfolding new_node
-new_lives number g h = record { fold = new_folds number g; genesis = h; faithful = new_node_is_faithful number g h }
+restarted_genesis : (p : Node) (blocks : List Block) → IsGenesis p.genesis → IsGenesis (restarted p blocks).genesis
+unfolding restarted
+restarted_genesis p blocks h = h
+
+-- a node that starts anew from good blocks of a genesis in its ranges
+started_lives : (p : Node) (blocks : List Block) (t : State) → IsGenesis p.genesis → fold_blocks p.genesis blocks ≡ Ok t → Lives (started p blocks)
+started_lives p blocks t h e =
+    let k : Lives (restarted p blocks) = record {
+      fold = (restarted_folds p blocks t e).0;
+      genesis = restarted_genesis p blocks h;
+      faithful = restarting_is_faithful p blocks t h e;
+    } in
+    list_keeps Lives (λ x l. lives_by x Replaying tt l) (restarted p blocks) k
+
+pub restarting_lives : (p : Node) → Lives p → Lives (restart_node p).0
+restarting_lives p h = started_lives p p.blocks (committed p) h.genesis h.fold.folded
+
+pub new_started_lives : (number : ℕ) (g : Genesis) (blocks : List Block) (t : State) → IsGenesis g → fold_blocks g blocks ≡ Ok t → Lives (started (new_node number g) blocks)
+new_started_lives number g blocks t h e =
+    let same = new_genesis number g in
+    started_lives (new_node number g) blocks t (subst IsGenesis (sym same) h) (ap (λ (x : Genesis). fold_blocks x blocks) same ∙ e)
 
 -- neither state of such a node comes from a default
 pub in_order : (p : Node) → Lives p → IsInOrder p

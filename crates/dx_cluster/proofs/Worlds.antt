@@ -1,15 +1,13 @@
 -- What the program holds, and the nodes and slots that it stands for.
 use Rattle.std.proofs.Common.{◌≡◌, ◌<◌, ◌≤◌, ◌+◌, ℕ, zero, suc, List, [], ◌∷◌, ◌++◌, map, length, take, refl, sym, ap, subst, ◌∙◌, arith, add-one, get_or, Option, Some, None, Result, Ok, Err, IfOk}
 use Rattle.std.specs.Prelude.{slice_get, slice_set, IsErr}
-use Rattle.std.specs.List.{AllZip, range_with_len}
+use Rattle.std.specs.List.{AllZip}
 use Rattle.std.specs.FinMap.{get, insert}
 use Rattle.std.proofs.lemmas.Slice.Zip.{AllZip-long}
 use Rattle.std.proofs.lemmas.List.{set-get_or, take_all}
-use Rattle.std.proofs.lemmas.List.FromFn.{map-range_with_len_more}
 use Rattle.dx_types.specs.declared.no_memory.NoMemory.{NoMemory as OutOfMemory}
 use Rattle.dx_types.specs.declared.Block.{Block}
-use Rattle.dx_types.specs.declared.Genesis.{Genesis}
-use Rattle.dx_node_spec.specs.Node.{Node, new_node}
+use Rattle.dx_node_spec.specs.Node.{Node}
 use Rattle.dx_node_spec.specs.Placing.{Refusal}
 use Rattle.dx_node.specs.declared.refusal.Refusal.{Refusal as Cause}
 use Rattle.dx_node.specs.Faults.{IsRefused}
@@ -37,7 +35,7 @@ one_answer P result a e h = subst (λ r. IfOk r P) (sym e) h
 
 module _ {A B : Type 0} (R : A → B → Type 0) where
   -- what stands at a place of the second list
-  found : (xs : List A) (ys : List B) (n : ℕ) → AllZip R xs ys → n < length xs → (y : B) × (slice_get ys n ≡ Some y) × ((x : A) → x ≡ get_or xs n x → R x y)
+  pub found : (xs : List A) (ys : List B) (n : ℕ) → AllZip R xs ys → n < length xs → (y : B) × (slice_get ys n ≡ Some y) × ((x : A) → x ≡ get_or xs n x → R x y)
   found [] ys n z h = absurd (omega arith)
   found (x ∷ xs) [] n z h = absurd z
   found (x ∷ xs) (y ∷ ys) zero z h = (y, refl, λ v e. subst (λ u. R u y) (sym e) z.0)
@@ -52,14 +50,14 @@ module _ {A B : Type 0} (R : A → B → Type 0) where
   both_set (a ∷ xs) (b ∷ ys) (suc n) x y z r = (z.0, both_set xs ys n x y z.1 r)
 
   -- both lists with one more behind them
-  both_more : (xs : List A) (ys : List B) (x : A) (y : B) → AllZip R xs ys → R x y → AllZip R (xs ++ x ∷ []) (ys ++ y ∷ [])
+  pub both_more : (xs : List A) (ys : List B) (x : A) (y : B) → AllZip R xs ys → R x y → AllZip R (xs ++ x ∷ []) (ys ++ y ∷ [])
   both_more [] [] x y z r = (r, tt)
   both_more [] (b ∷ ys) x y z r = absurd z
   both_more (a ∷ xs) [] x y z r = absurd z
   both_more (a ∷ xs) (b ∷ ys) x y z r = (z.0, both_more xs ys x y z.1 r)
 
 -- an element put where it stands
-same_set : {A : Type 0} (xs : List A) (n : ℕ) (x : A) → slice_get xs n ≡ Some x → slice_set xs n x ≡ xs
+pub same_set : {A : Type 0} (xs : List A) (n : ℕ) (x : A) → slice_get xs n ≡ Some x → slice_set xs n x ≡ xs
 same_set [] n x e = refl
 same_set (y ∷ xs) zero x e = ap (λ v. v ∷ xs) (cc)
 same_set (y ∷ xs) (suc n) x e = ap (λ vs. y ∷ vs) (same_set xs n x e)
@@ -77,12 +75,13 @@ idle_at c n h s l e =
 abbrev pub KeepsIdle : (Node → Node × Answer) → Type 0
 KeepsIdle act = (p : Node) → IsIdle p → IsIdle (act p).0
 
--- a node has done something
-pub has_acted : (c d : Cluster) (w : World) (node : ℕ) (act : Node → Node × Answer) (old new : Held) (answer : Answer) → Stands c w → node < length c.nodes.items → old ≡ get_or c.nodes.items node old → Acts act old new answer → KeepsIdle act
+-- a node has done something, as just the one that it stands for
+pub has_acted_at : (c d : Cluster) (w : World) (node : ℕ) (act : Node → Node × Answer) (old new : Held) (answer : Answer) → Stands c w → node < length c.nodes.items → old ≡ get_or c.nodes.items node old
+    → ((p : Node) → slice_get w.nodes node ≡ Some p → StandsFor old p → StandsFor new (act p).0 × (answer ≡ (act p).1)) → KeepsIdle act
     → d.nodes.items ≡ slice_set c.nodes.items node new → d.slots ≡ c.slots → HasActed (act_at w node act) d answer
-has_acted c d w node act old new answer st h o a k ns ss =
+has_acted_at c d w node act old new answer st h o a k ns ss =
     let p = found StandsFor c.nodes.items w.nodes node st.nodes h in
-    let r = a p.0 (p.2 old o) in
+    let r = a p.0 p.1 (p.2 old o) in
     let acted : act_at w node act ≡ (record w { nodes = slice_set w.nodes node (act p.0).0 }, (act p.0).1) = ap (λ q. node_acts w q node act) p.1 in
     let stands : Stands d (record w { nodes = slice_set w.nodes node (act p.0).0 }) = record {
       nodes = subst (λ xs. AllZip StandsFor xs (slice_set w.nodes node (act p.0).0)) (sym ns) (both_set StandsFor c.nodes.items w.nodes node new (act p.0).0 st.nodes r.0);
@@ -90,6 +89,11 @@ has_acted c d w node act old new answer st h o a k ns ss =
       idle = all_set IsIdle w.nodes node (act p.0).0 st.idle (k p.0 (all_at IsIdle w.nodes node p.0 p.1 st.idle));
     } in
     subst (λ (x : World × Answer). HasActed x d answer) (sym acted) (record { answered = r.1; stands = stands })
+
+-- a node has done something
+pub has_acted : (c d : Cluster) (w : World) (node : ℕ) (act : Node → Node × Answer) (old new : Held) (answer : Answer) → Stands c w → node < length c.nodes.items → old ≡ get_or c.nodes.items node old → Acts act old new answer → KeepsIdle act
+    → d.nodes.items ≡ slice_set c.nodes.items node new → d.slots ≡ c.slots → HasActed (act_at w node act) d answer
+has_acted c d w node act old new answer st h o a k ns ss = has_acted_at c d w node act old new answer st h o (λ p at. a p) k ns ss
 
 -- a node has told something
 pub has_told : (c : Cluster) (w : World) (node : ℕ) (act : Node → Node × Answer) (state : Held) (answer : Answer) → Stands c w → node < length c.nodes.items → state ≡ get_or c.nodes.items node state → Acts act state state answer → KeepsIdle act
@@ -108,7 +112,7 @@ has_rested c d w node act answer st h a ns ss =
     let stands : Stands d w = record { nodes = subst (λ xs. AllZip StandsFor xs w.nodes) (sym ns) st.nodes; slots = ss ∙ st.slots; idle = st.idle } in
     subst (λ (x : World × Answer). HasActed x d answer) (sym acted) (record { answered = refl; stands = stands })
 
-slot_of : (c : Cluster) (w : World) (slot : ℕ) (o : Option Block) → Stands c w → o ≡ get c.slots slot → get w.slots slot ≡ o
+pub slot_of : (c : Cluster) (w : World) (slot : ℕ) (o : Option Block) → Stands c w → o ≡ get c.slots slot → get w.slots slot ≡ o
 slot_of c w slot o st e = ap (λ (m : Stored). get m slot) (sym st.slots) ∙ sym e
 
 -- a node was asked for something of a slot that was never filled
@@ -122,18 +126,6 @@ pub slot_acted : (c d : Cluster) (w : World) (node slot : ℕ) (act : Option Blo
     → Acts (act (Some b)) old new answer → KeepsIdle (act (Some b)) → d.nodes.items ≡ slice_set c.nodes.items node new → d.slots ≡ c.slots → HasActed (act_at w node (act (get w.slots slot))) d answer
 slot_acted c d w node slot act b old new answer st h e o a k ns ss =
     subst (λ q. HasActed (act_at w node (act q)) d answer) (sym (slot_of c w slot (Some b) st e)) (has_acted c d w node (act (Some b)) old new answer st h o a k ns ss)
-
--- one more node with no blocks
-pub one_more_node : (items more : List Held) (g : Genesis) (node : Held) (i next : ℕ) → AllZip StandsFor items (map (λ number. new_node number g) (range_with_len 0 i)) → StandsFor node (new_node i g) → more ≡ items ++ node ∷ [] → next ≡ i + 1
-    → AllZip StandsFor more (map (λ number. new_node number g) (range_with_len 0 next))
-one_more_node items more g node i next z st e n =
-    subst (λ xs. AllZip StandsFor xs (map (λ number. new_node number g) (range_with_len 0 next))) (sym e)
-    (subst (λ ps. AllZip StandsFor (items ++ node ∷ []) ps) (sym (ap (λ k. map (λ number. new_node number g) (range_with_len 0 k)) n ∙ map-range_with_len_more (λ number. new_node number g) 0 i i (omega arith)))
-    (both_more StandsFor items (map (λ number. new_node number g) (range_with_len 0 i)) node (new_node i g) z st))
-
--- the nodes of a new world
-pub new_nodes : (items : List Held) (g : Genesis) (n k : ℕ) → AllZip StandsFor items (map (λ number. new_node number g) (range_with_len 0 n)) → n ≡ k → AllZip StandsFor items (map (λ number. new_node number g) (range_with_len 0 k))
-new_nodes items g n k z e = subst (λ m. AllZip StandsFor items (map (λ number. new_node number g) (range_with_len 0 m))) e z
 
 -- a node has proposed
 pub has_proposed : (c d : Cluster) (w : World) (node slot time : ℕ) (h : Held) (b : Block) (answer : Answer) → Stands c w → node < length c.nodes.items → h ≡ get_or c.nodes.items node h → ((p : Node) → StandsFor h p → propose p time ≡ Ok b)

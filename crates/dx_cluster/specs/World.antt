@@ -182,6 +182,10 @@ pub record HasActed (r : World × Answer) (after : Cluster) (answer : Answer) : 
   pub answered : answer ≡ r.1
   pub stands : Stands after r.0
 
+-- a node has done something, and the keeper's rows are those behind it
+abbrev pub HasKept : World × Answer → Cluster → Answer → Option Rows → Type 0
+HasKept r after answer rows = HasActed r after answer × KeepsRows rows r.0
+
 -- an event is done: the reply to it, and what the program holds after it
 pub record IsDone (r : World × Reply) (after : Cluster) (reply : Reply) : Type 0 where
   pub replied : reply ≡ r.1

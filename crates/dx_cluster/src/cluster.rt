@@ -37,7 +37,7 @@ impl Cluster {
     ghost use Rattle.dx_io.specs.Causes.{Rose};
     ghost use Rattle.dx_io.specs.Rows.{Rows};
     ghost use Rattle.dx_cluster.specs.Acts.{place_order, cancel_order, cancel_orders, feed_price, pool_message, sweep_account, check_slot, restart_node, show_slot, tell_balance, tell_speculative, tell_filled, tell_best, tell_audit, tell_digest};
-    ghost use Rattle.dx_cluster.specs.World.{World, opened, heights, act_at, commit_at, propose_at, acted, uses_rows, step, Stands, StandsForSome, KeepsRows, HasActed, IsDone, Opens, OpenRefused, MayEnd, Breaks};
+    ghost use Rattle.dx_cluster.specs.World.{World, opened, heights, act_at, commit_at, propose_at, acted, uses_rows, step, Stands, StandsForSome, KeepsRows, HasActed, HasKept, IsDone, Opens, OpenRefused, MayEnd, Breaks};
 
     /// From 1 to 16 nodes of one genesis, numbered from 0, each started from the rows that a keeper has of it, and no
     /// slot filled ("Genesis line" in docs/FORMAT.md). A node that has no rows gets the digest of the genesis as its
@@ -65,7 +65,10 @@ impl Cluster {
     {
         let mut nodes = Vec::new(alloc);
         'nodes: for number in 0..count {
-            nodes.push(start_node(alloc, genesis, number, keeper)?)?;
+            match start_node(alloc, genesis, number, keeper) {
+                Ok(node) => nodes.push(node)?,
+                Err(fault) => return Err(fault),
+            }
         }
         Ok(Cluster {
             nodes,
@@ -194,10 +197,9 @@ impl Cluster {
     fn commit<K: Keeper>(&mut self, node: u32, slot: u32, keeper: &mut K) -> Result<Answer, StartFault>
         requires stands { StandsForSome self.old }
         requires there { node < length self.old.nodes.items }
-        ensures done { IfOk result (λ answer. (w : World) → Stands self.old w
-            → HasActed (commit_at w node slot) self.new answer) }
-        ensures kept { OnOk result ((w : World) → Stands self.old w → KeepsRows (K.rows keeper.old) w
-            → KeepsRows (K.rows keeper.new) (commit_at w node slot).0) }
+        ensures done { IfOk result (λ answer. (w : World) → Stands self.old w → KeepsRows (K.rows keeper.old) w
+            → HasKept (commit_at w node slot) self.new answer (K.rows keeper.new)) }
+        ensures stands { OnOk result (StandsForSome self.new) }
         ensures many { length self.new.nodes.items ≡ length self.old.nodes.items }
         ensures breaks { IfErr result (λ fault. (w : World) → Stands self.old w → KeepsRows (K.rows keeper.old) w
             → MayEnd w (commit_at w node slot).0 (K.rows keeper.new) fault) }
@@ -215,9 +217,7 @@ impl Cluster {
         requires stands { StandsForSome self.old }
         requires there { node < length self.old.nodes.items }
         ensures done { IfOk result (λ answer. (w : World) → Stands self.old w → KeepsRows (K.rows keeper.old) w
-            → HasActed (act_at w node restart_node) self.new answer) }
-        ensures kept { OnOk result ((w : World) → Stands self.old w → KeepsRows (K.rows keeper.old) w
-            → KeepsRows (K.rows keeper.new) (act_at w node restart_node).0) }
+            → HasKept (act_at w node restart_node) self.new answer (K.rows keeper.new)) }
         ensures stands { OnOk result (StandsForSome self.new) }
         ensures many { length self.new.nodes.items ≡ length self.old.nodes.items }
         ensures breaks { IfErr result (λ fault. (w : World) → Stands self.old w → KeepsRows (K.rows keeper.old) w
@@ -225,8 +225,10 @@ impl Cluster {
         ensures later { K.faults keeper.old ≤ K.faults keeper.new }
         ensures failed { IsErrOf result StartFault.KeepFault → Rose (K.faults keeper.old) (K.faults keeper.new) }
     {
-        let height = restart_node(&mut self.nodes[node as usize], keeper)?;
-        Ok(Answer::Done(Some(height)))
+        match restart_node(&mut self.nodes[node as usize], keeper) {
+            Ok(height) => Ok(Answer::Done(Some(height))),
+            Err(fault) => Err(fault),
+        }
     }
 
     /// A node tells an account's committed balance.
@@ -326,6 +328,26 @@ impl Cluster {
         }
     }
 
+    /// Does what an event asks for, with its rows, and tells the answer.
+    fn answer<K: Keeper>(&mut self, event: Event, keeper: &mut K) -> Result<Answer, StartFault>
+        requires stands { StandsForSome self.old }
+        requires of { IsOf (length self.old.nodes.items) event }
+        ensures done { IfOk result (λ answer. (w : World) → Stands self.old w → KeepsRows (K.rows keeper.old) w
+            → HasKept (acted w event) self.new answer (K.rows keeper.new)) }
+        ensures stands { OnOk result (StandsForSome self.new) }
+        ensures many { length self.new.nodes.items ≡ length self.old.nodes.items }
+        ensures breaks { IfErr result (λ fault. (w : World) → Stands self.old w → KeepsRows (K.rows keeper.old) w
+            → MayEnd w (acted w event).0 (K.rows keeper.new) fault) }
+        ensures later { K.faults keeper.old ≤ K.faults keeper.new }
+        ensures failed { IsErrOf result StartFault.KeepFault → Rose (K.faults keeper.old) (K.faults keeper.new) }
+    {
+        match event {
+            Event::Commit { node, slot } => self.commit(node, slot, keeper),
+            Event::Restart { node } => self.restart(node, keeper),
+            _ => Ok(self.act(event)?),
+        }
+    }
+
     /// Executes an event, and tells the reply ("Events" in docs/FORMAT.md).
     ///
     /// The cluster stands for some nodes and slots, as it does when it is opened and behind each event. Where the keeper
@@ -348,11 +370,7 @@ impl Cluster {
         ensures failed { IsErrOf result StartFault.KeepFault → Rose (K.faults keeper.old) (K.faults keeper.new) }
     {
         let word = event.word();
-        let answer = match event {
-            Event::Commit { node, slot } => self.commit(node, slot, keeper)?,
-            Event::Restart { node } => self.restart(node, keeper)?,
-            _ => self.act(event)?,
-        };
+        let answer = self.answer(event, keeper)?;
         Ok(Reply { word, answer })
     }
 }
