@@ -1,18 +1,22 @@
-//! The nodes of a scenario and its slots for blocks: what each event does to them, and the reply.
+//! The nodes of a scenario and its slots for blocks: how they start from the rows of a keeper, what each event does
+//! to them and to the rows, and the reply.
 //!
-//! It stands on `dx_scenario` (what a line asks for), `dx_print` (what is replied) and `dx_node` (what one
-//! node does). [`Cluster::serve`] is equal to `step` of `specs/World`: for every world that the cluster stands
-//! for, the reply is that of the definition, and the cluster stands for the world after the event. A node's
-//! states there are computed again from the genesis each time: the plain fold of its committed blocks, and
-//! its queue behind them. Behind a commit a node places its orders again before the next event, so between two
-//! events none is left to place. [`unbuilt_place`] names the place of what is not built in an event; only what
-//! is built is served. One more event is one more case of `acted`.
+//! It stands on `dx_scenario` (what a line asks for), `dx_print` (what is replied), `dx_node` (what one node does) and
+//! `dx_io` (the trait of a keeper). [`Cluster::open`] is equal to `opened` of `specs/World`: each node starts from the
+//! chain of blocks that its rows are, or the first node whose rows are none ends the call. [`Cluster::serve`] is equal
+//! to `step`: for every world that the cluster stands for, the reply is that of the definition, and the cluster and the
+//! keeper's rows are those of the world after the event. Over a keeper that does not tell its rows the cluster stands
+//! for some world at each end. A node's states there are computed again from the genesis each time: the plain fold of
+//! its committed blocks, and its queue behind them. Behind a start and behind a commit a node places its orders again
+//! before the next event, so between two events none is left to place. One more event is one more case of `acted`.
 //!
-//! Seven laws hold of the worlds that a scenario reaches: the committed state of each node is the plain fold
-//! of its blocks ([`folds_stay_good`]), it is balanced and sound, which its audit shows ([`states_balance`]),
-//! the node's queue is good on it ([`nodes_are_in_order`]), a placing is stopped by risk or a bound alone
-//! ([`placings_stop_by_risk`]), what a node proposes is good on it ([`proposals_are_good`]), nothing but a commit changes it, by nothing but the block of the slot
-//! ([`only_commits_count`]), and nothing else decides the replies about it ([`committed_replies_agree`]).
+//! Nine laws hold of the worlds that a scenario reaches, whatever rows were kept before: the committed state of each
+//! node is the plain fold of its blocks ([`folds_stay_good`]), it is balanced and sound, which its audit shows
+//! ([`states_balance`]), the node's queue is good on it ([`nodes_are_in_order`]), a placing is stopped by risk or a
+//! bound alone ([`placings_stop_by_risk`]), what a node proposes is good on it ([`proposals_are_good`]), nothing but a
+//! commit changes it, by nothing but the block of the slot ([`only_commits_count`]), and nothing else decides the
+//! replies about it ([`committed_replies_agree`]). The rows of each node are just those of its blocks
+//! ([`rows_are_of_blocks`]), and the next run over them goes on with these blocks ([`next_run_goes_on`]).
 #![tactic(auto)]
 
 mod acts;
