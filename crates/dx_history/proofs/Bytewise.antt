@@ -1,6 +1,6 @@
 -- The bytes of a block are bytes.
-use Rattle.std.proofs.Common.{◌≡◌, ℕ, zero, suc, ◌+◌, ◌<◌, ◌%◌, Bool, true, false, cond, ◌&&◌, nat_lt, ℤ, List, [], ◌∷◌, ◌++◌, length, get_or, refl, sym, ap, ◌∙◌, arith}
-use Rattle.std.specs.List.{list_all, flat_map}
+use Rattle.std.proofs.Common.{◌≡◌, ℕ, zero, suc, ◌<◌, ◌%◌, Bool, true, false, cond, ◌&&◌, nat_lt, ℤ, List, [], ◌∷◌, ◌++◌, length, get_or, refl, ap, ◌∙◌, arith}
+use Rattle.std.specs.List.{flat_map}
 use Rattle.std.specs.Int.{w32, w64, to_be_bytes}
 use Rattle.std.proofs.lemmas.Bool.Decides.{nat_tests}
 use Rattle.std.proofs.lemmas.List.Folds.{list_all-append}
@@ -138,6 +138,7 @@ known (n ∷ bytes) e zero = let k = parts (nat_lt n 256) (are_bytes bytes) e in
     parts : (a b : Bool) → (a && b) ≡ true → (a ≡ true) × (b ≡ true)
     parts true b e = (refl, e)
     parts false b e = absurd (cc)
+
     below : (n : ℕ) → nat_lt n 256 ≡ true → n < 256
     below n lt = grind (arith, nat_tests)
 known (n ∷ bytes) e (suc i) = known bytes (rest (nat_lt n 256) (are_bytes bytes) e) i

@@ -1,16 +1,15 @@
 -- Each good block is one height more, and no height is above the last.
-use Rattle.std.proofs.Common.{◌≡◌, ℕ, suc, ◌+◌, ◌≤◌, Bool, true, false, not, ◌||◌, ◌==◌, cond, nat_lt, List, [], ◌∷◌, ◌++◌, length, None, Result, Ok, refl, sym, ap, ◌∙◌, arith}
+use Rattle.std.proofs.Common.{◌≡◌, ℕ, ◌+◌, ◌≤◌, Bool, true, false, not, ◌||◌, ◌==◌, cond, nat_lt, List, [], ◌∷◌, ◌++◌, length, None, Ok, refl, sym, ap, ◌∙◌, arith}
 use Rattle.std.proofs.lemmas.Bool.{or_parts, eqb-true, ltb-false}
 use Rattle.dx_types.specs.declared.Block.{Block}
 use Rattle.dx_types.specs.declared.Genesis.{Genesis}
-use Rattle.dx_types.specs.declared.Bad.{Bad}
-use Rattle.dx_spec.specs.Step.{◌>>=◌, fail_as}
+use Rattle.dx_spec.specs.Step.{fail_as}
 use Rattle.dx_spec.specs.Codes.{wrong_height, header_part}
 use Rattle.dx_spec.specs.State.{State, genesis_state}
 use Rattle.dx_spec.specs.Bounds.{last_moment}
 use Rattle.dx_spec.specs.Operations.{ops_step}
 use Rattle.dx_spec.specs.Messages.{messages}
-use Rattle.dx_spec.specs.Blocks.{bad, check_header, votes_step, prices_step, drop_ended, take_samples, take_funding, end_step, block_step, fold_from}
+use Rattle.dx_spec.specs.Blocks.{bad, check_header, votes_step, prices_step, take_samples, take_funding, end_step, block_step, fold_from}
 use Rattle.dx_spec.proofs.Steps.{ok_same, true_from_not, passed}
 use Rattle.dx_spec.proofs.Scripts.{passes, unit_passes, stage_passes, stage_next}
 

@@ -11,7 +11,6 @@ use Rattle.std.specs.Cmp.{nat_cmp_is, ranks}
 use Rattle.std.specs.FinMap as map
 use Rattle.std.proofs.lemmas.Bool.{eqb-true}
 use Rattle.std.proofs.lemmas.Bool.Decides.{nat_tests}
-use Rattle.std.proofs.lemmas.Option.{slice_get_past, slice_get_within}
 use Rattle.dx_maps.proofs.Entries.{keys_rise}
 use Rattle.dx_types.specs.declared.Block.{Block}
 use Rattle.dx_types.specs.declared.Genesis.{Genesis}
@@ -177,6 +176,7 @@ no_others rows node most count few all h past = go (map.get rows (place_of node 
   where
     least : (n : ℕ) → min n (2 ^ 32 - 1) ≡ most + 1 → n ≤ most + 1
     least n e = omega (arith, e, few)
+
     go : (o : Option (List ℕ)) → map.get rows (place_of node h) ≡ o → map.get rows (place_of node h) ≡ None
     go None e = e
     go (Some bytes) e =
@@ -190,6 +190,7 @@ no_rows rows node count h = go (map.get rows (place_of node h)) refl
   where
     least : (n : ℕ) → min n (2 ^ 32 - 1) ≡ 0 → n ≡ 0
     least n e = omega (arith, e)
+
     go : (o : Option (List ℕ)) → map.get rows (place_of node h) ≡ o → map.get rows (place_of node h) ≡ None
     go None e = e
     go (Some bytes) e =

@@ -109,6 +109,7 @@ in_all h most le = go (h == most) refl
   where
     below : (n m : ℕ) → n ≤ m → (n == m) ≡ false → n < 0 + m
     below n m l e = grind (arith, nat_tests)
+
     go : (t : Bool) → (h == most) ≡ t → is_in h (up_to 0 most most) ≡ true
     go true i = let same = eqb-true h most i in subst (λ (k : ℕ). is_in k (up_to 0 most most) ≡ true) (sym same) (in_last 0 most most)
     go false i = in_up h 0 most most (omega arith) (below h most le i)

@@ -1,6 +1,6 @@
 -- Rows that are read as a chain are just those of it, behind a start and after each commit.
 use Rattle.std.proofs.Common.{◌≡◌, ℕ, zero, suc, ◌+◌, ◌-◌, ◌<◌, ◌≤◌, Bool, true, false, cond, ◌==◌, nat_lt, List, [], ◌∷◌, ◌++◌, length, slice_get, Option, Some, None, Result, Ok, Err, option_map, refl, sym, ap, subst, ◌∙◌, arith}
-use Rattle.std.specs.Prelude.{IsOk, is_ok, is_some, ok_or}
+use Rattle.std.specs.Prelude.{is_ok, is_some, ok_or}
 use Rattle.std.specs.List.{AllByRecursion}
 use Rattle.std.specs.Str.{bytes_eq}
 use Rattle.std.specs.FinMap as map
@@ -100,6 +100,7 @@ digest_read g (Some row) above bs e = go (bytes_eq row (digest_of g)) refl e
     other : (t : Bool) → first_of (cond t (Some (OtherGenesis row)) (Some (BadAt 0))) above ≡ Ok bs → (Some row ≡ Some (digest_of g)) × (above ≡ Ok bs)
     other true f = absurd (cc)
     other false f = absurd (cc)
+
     go : (t : Bool) → bytes_eq row (digest_of g) ≡ t → first_of (cond t None (cond (length row == 32) (Some (OtherGenesis row)) (Some (BadAt 0)))) above ≡ Ok bs
         → (Some row ≡ Some (digest_of g)) × (above ≡ Ok bs)
     go true i f = (ap (λ (xs : List ℕ). Some xs) ((bytes_eq-Decides row (digest_of g)).0 i), f)
@@ -125,6 +126,7 @@ just_rows rows node g bs below above h = go (nat_lt (length bs) h) refl
   where
     past : (n m : ℕ) → nat_lt n m ≡ true → n < m
     past n m e = grind (arith, nat_tests)
+
     go : (t : Bool) → nat_lt (length bs) h ≡ t → map.get rows (place_of node h) ≡ row_at g bs h
     go true i = let more = past (length bs) h i in above h more ∙ sym (row_past g bs h more)
     go false i = below h (ltb-false (length bs) h i)
@@ -154,9 +156,11 @@ begun_now rows node g count =
   where
     above : (n : ℕ) → (suc n == 0) ≡ false
     above n = grind (arith, nat_tests)
+
     only : (h : ℕ) → cond (h == 0) (Some (digest_of g)) None ≡ row_at g [] h
     only zero = refl
     only (suc n) = ap (λ (t : Bool). cond t (Some (digest_of g)) None) (above n)
+
     first : AreRowsOf (map.insert rows (place_of node 0) (digest_of g)) node g []
     first h =
         own_row rows node 0 (digest_of g) h
