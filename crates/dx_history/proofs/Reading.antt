@@ -1,5 +1,5 @@
 -- What a row is read as, and what is known of the rows.
-use Rattle.std.proofs.Common.{◌≡◌, ℕ, List, Option, Some, None, refl, sym, ap, subst, ◌∙◌}
+use Rattle.std.proofs.Common.{◌≡◌, ℕ, Bool, true, false, cond, List, Option, Some, None, refl, sym, ap, subst, ◌∙◌}
 use Rattle.std.specs.Prelude.{◌≢◌, Result, Ok, Err, IfOk, IsErrOf}
 use Rattle.std.specs.FinMap as map
 use Rattle.dx_types.specs.declared.Block.{Block}
@@ -9,11 +9,12 @@ use Rattle.dx_codec.specs.Blocks.{block_bytes, FitsBlock}
 use Rattle.dx_codec.specs.declared.fault.CodecFault.{CodecFault}
 use Rattle.dx_codec.specs.declared.fault.CodecFault.TheVariants as codec
 use Rattle.dx_codec.specs.Reading.{whole, read_block, Reads}
-use Rattle.dx_codec.proofs.Formats.{IsBytes, same_value, whole_takes, whole_again}
+use Rattle.dx_codec.proofs.Formats.{same_value, whole_takes, whole_again}
 use Rattle.dx_codec.proofs.BlockFormats.{block_format}
 use Rattle.dx_history.specs.declared.fault.HistoryFault.{HistoryFault}
 use Rattle.dx_history.specs.declared.fault.HistoryFault.TheVariants.{Failed, Bad, NoMemory}
-use Rattle.dx_history.specs.Rows.{IsRowOf, block_of, Tells}
+use Rattle.dx_history.specs.Rows.{IsRowOf, are_bytes, block_in, block_of, Tells}
+use Rattle.dx_history.proofs.Bytewise.{block_are, known}
 
 -- rows stay as they are where nothing is done
 pub same_rows : (rows : Option Rows) → SameRows rows rows
@@ -26,27 +27,41 @@ known_row None key row h rows e = absurd (cc)
 known_row (Some told) key row h rows e = h ∙ ap (λ (r : Rows). map.get r key) (same_value told rows e)
 
 -- bytes of a block are read as that block
-pub read_as : (b : Block) (bytes : List ℕ) → FitsBlock b → bytes ≡ block_bytes b → whole read_block bytes ≡ Some b
-read_as b bytes fits e = ap (whole read_block) e ∙ whole_again block_format b fits
+pub read_as : (b : Block) (bytes : List ℕ) → FitsBlock b → bytes ≡ block_bytes b → block_in bytes ≡ Some b
+read_as b bytes fits e =
+    ap block_in e ∙ ap (λ (t : Bool). cond t (whole read_block (block_bytes b)) None) (block_are b).test ∙ whole_again block_format b fits
+
+-- and what is read as a block is its bytes
+pub read_from : (bytes : List ℕ) (b : Block) → block_in bytes ≡ Some b → FitsBlock b × (bytes ≡ block_bytes b)
+read_from bytes b e = go (are_bytes bytes) refl e
+  where
+    go : (t : Bool) → are_bytes bytes ≡ t → cond t (whole read_block bytes) None ≡ Some b → FitsBlock b × (bytes ≡ block_bytes b)
+    go true i f = let taken = whole_takes block_format bytes b (known bytes i) f in (taken.1, taken.0)
+    go false i f = absurd (cc)
 
 -- bytes that are no block's are read as none
-pub read_none : (bytes : List ℕ) → IsBytes bytes → ((b : Block) → FitsBlock b → bytes ≢ block_bytes b) → whole read_block bytes ≡ None
-read_none bytes fits none = go (whole read_block bytes) refl
+pub read_none : (bytes : List ℕ) → ((b : Block) → FitsBlock b → bytes ≢ block_bytes b) → block_in bytes ≡ None
+read_none bytes none = go (block_in bytes) refl
   where
-    go : (read : Option Block) → whole read_block bytes ≡ read → whole read_block bytes ≡ None
+    go : (read : Option Block) → block_in bytes ≡ read → block_in bytes ≡ None
     go None e = e
-    go (Some b) e = let t = whole_takes block_format bytes b fits e in absurd (none b t.1 t.0)
+    go (Some b) e = let t = read_from bytes b e in absurd (none b t.0 t.1)
 
 -- so a reader's answer is what the bytes are read as, where it finds just the blocks whose bytes they are
-pub decided : (r : Result Block CodecFault) (bytes : List ℕ) → IsBytes bytes → IfOk r (λ b. FitsBlock b × (bytes ≡ block_bytes b))
-    → (r ≡ Err codec.Malformed → (b : Block) → FitsBlock b → bytes ≢ block_bytes b) → Reads (λ b. b) r (whole read_block bytes)
-decided (Ok b) bytes fits found none = read_as b bytes found.0 found.1
-decided (Err codec.Malformed) bytes fits found none = read_none bytes fits (none refl)
-decided (Err codec.NoMemory) bytes fits found none = tt
+pub decided : (r : Result Block CodecFault) (bytes : List ℕ) → IfOk r (λ b. FitsBlock b × (bytes ≡ block_bytes b))
+    → (r ≡ Err codec.Malformed → (b : Block) → FitsBlock b → bytes ≢ block_bytes b) → Reads (λ b. b) r (block_in bytes)
+decided (Ok b) bytes found none = read_as b bytes found.0 found.1
+decided (Err codec.Malformed) bytes found none = read_none bytes (none refl)
+decided (Err codec.NoMemory) bytes found none = tt
 
 -- a row that is a block's bytes gives that block
 pub gives_block : (row : Option (List ℕ)) (b : Block) → IsRowOf row b → block_of row ≡ Some b
-gives_block row b h = ap block_of h.bytes ∙ whole_again block_format b h.fits
+gives_block row b h = ap block_of h.bytes ∙ read_as b (block_bytes b) h.fits refl
+
+-- and a block is given by a row that is its bytes
+pub given_by : (row : Option (List ℕ)) (b : Block) → block_of row ≡ Some b → IsRowOf row b
+given_by None b e = absurd (cc)
+given_by (Some bytes) b e = let taken = read_from bytes b e in record { fits = taken.0; bytes = ap (λ (xs : List ℕ). Some xs) taken.1 }
 
 -- where a row is a block's bytes a good answer is that block
 pub only_told : (r : Result Block HistoryFault) (row : Option (List ℕ)) (b : Block) → Tells r (block_of row) → IsRowOf row b → IfOk r (λ kept. kept ≡ b)

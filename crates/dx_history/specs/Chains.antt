@@ -75,7 +75,7 @@ begun rows node g = if row_count rows node == 0 then map.insert rows (place_of n
 -- the rows of a node are just those of a chain of blocks that are good from a genesis on and have bytes
 pub record IsChain (rows : Rows) (node : ℕ) (g : Genesis) (bs : List Block) : Type 0 where
   -- its rows are just those
-  pub rows : AreRowsOf rows node g bs
+  pub rows_are : AreRowsOf rows node g bs
   -- so many are counted
   pub count : row_count rows node ≡ length bs + 1
   -- each block is that of its bytes alone

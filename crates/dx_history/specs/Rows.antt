@@ -1,5 +1,6 @@
 -- Which block a row of a node keeps.
-use Rattle.std.specs.Prelude.{◌≡◌, ℕ, List, Option, Some, None, Result, Ok, Err}
+use Rattle.std.specs.Prelude.{◌≡◌, ℕ, Bool, nat_lt, if◌then◌else◌, List, Option, Some, None, Result, Ok, Err}
+use Rattle.std.specs.List.{list_all}
 use Rattle.std.specs.FinMap as map
 use Rattle.dx_types.specs.declared.Block.{Block}
 use Rattle.dx_io.specs.declared.row_key.RowKey.{RowKey}
@@ -22,9 +23,17 @@ pub record IsRowOf (row : Option (List ℕ)) (b : Block) : Type 0 where
 abbrev pub Keeps : Rows → ℕ → ℕ → Block → Type 0
 Keeps rows node height b = IsRowOf (map.get rows (place_of node height)) b
 
+-- all numbers are bytes
+abbrev pub are_bytes : List ℕ → Bool
+are_bytes bytes = list_all (λ n. nat_lt n 256) bytes
+
+-- the block that bytes are read as, if they are read; other numbers are no block's
+abbrev pub block_in : List ℕ → Option Block
+block_in bytes = if are_bytes bytes then whole read_block bytes else None
+
 -- the block that a row is read as, if it is there and is read
 abbrev pub block_of : Option (List ℕ) → Option Block
-block_of row = row >>= whole read_block
+block_of row = row >>= block_in
 
 -- the block that the rows give for a node at a height
 abbrev pub block_at : Rows → ℕ → ℕ → Option Block

@@ -5,9 +5,9 @@ ghost use Rattle.dx_types.specs.declared.Block.{Block as Content};
 ghost use Rattle.dx_io.specs.Causes.{Rose};
 ghost use Rattle.dx_io.specs.Rows.{Rows, SameRows, SetsRow};
 ghost use Rattle.dx_codec.specs.Blocks.{block_bytes, FitsBlock};
-ghost use Rattle.dx_codec.specs.Reading.{Reads, whole, read_block};
+ghost use Rattle.dx_codec.specs.Reading.{Reads};
 ghost use Rattle.dx_history.specs.declared.fault.HistoryFault.TheVariants.{Failed, Bad};
-ghost use Rattle.dx_history.specs.Rows.{place_of, IsRowOf, Keeps, block_of, block_at, Tells};
+ghost use Rattle.dx_history.specs.Rows.{place_of, IsRowOf, Keeps, block_in, block_of, block_at, Tells};
 
 use crate::fault::HistoryFault;
 use dx_codec::{CodecFault, decode_block, encode_block};
@@ -37,7 +37,7 @@ pub fn keep_block<K: Keeper>(keeper: &mut K, node: u32, block: &Block) -> Result
 /// The block that has these bytes.
 fn read_bytes(alloc: Global, bytes: &[u8]) -> Result<Block, CodecFault>
     ensures found { IfOk result (λ b. FitsBlock b × (bytes.now ≡ block_bytes b)) }
-    ensures told { Reads (λ b. b) result (whole read_block bytes.now) }
+    ensures told { Reads (λ b. b) result (block_in bytes.now) }
 {
     decode_block(alloc, bytes)
 }

@@ -25,7 +25,8 @@ pub fn rows_grow()
 
 /// The law of reading a chain: rows of a node that are just those of a chain are read as that chain.
 pub fn chain_is_kept()
-    ensures { (rows : Rows) (node : ℕ) (g : Genesis) (bs : List Block) → IsChain rows node g bs → kept g rows node ≡ Ok bs }
+    ensures { (rows : Rows) (node : ℕ) (g : Genesis) (bs : List Block) →
+        IsChain rows node g bs → kept g rows node ≡ Ok bs }
 {}
 
 /// The law of a start: where the rows of a node are read as a chain, behind a start they are just those of that

@@ -7,9 +7,12 @@
 //! memory from the allocator of the block, or of the row.
 //!
 //! What the rows of a node say all together, a chain of blocks that are good from a genesis on or the first
-//! height at which they are none, is `specs/Chains.antt: kept`. Two laws stand beside it: a block that is set
-//! at the next height makes a chain's rows those of the longer chain ([`rows_grow`]), and the rows of a good
-//! chain are read as that chain ([`chain_is_kept`]).
+//! height at which they are none, is `specs/Chains.antt: kept`; that they are just the rows of a chain is
+//! `IsChain` there. The laws say that the two go together over a whole run: rows that are just those of a chain
+//! are read as it ([`chain_is_kept`]); where rows are read as a chain they are behind a start just those of it,
+//! as the keeper has counted them and so has no others ([`kept_is_chain`]); a good block that is set at its
+//! height makes them those of the longer chain ([`chain_grows`], [`rows_grow`]); and what is set for one node
+//! leaves every other node's chain ([`others_stay`]).
 #![tactic(auto)]
 
 mod blocks;
