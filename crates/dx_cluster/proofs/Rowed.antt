@@ -102,8 +102,8 @@ commit_rows w node p b (Ok q) e at h =
     let own : AreRowsOf rows p.number p.genesis (p.blocks ++ b ∷ []) = grown w.rows p.number p.genesis p.blocks b (all_at (RowsAre w.rows) w.nodes node p at h.rows_are) next in (
       numbers_set w.nodes node p x at g.number h.numbered,
       all_changed (RowsAre w.rows) (RowsAre rows) w.nodes 0 node p x h.numbered at
-      (λ y apart k. apart_from w.rows p.number y.number b.height (block_bytes b) y.genesis y.blocks apart k) h.rows_are
-      (are_of rows p.number x.number p.genesis x.genesis (p.blocks ++ b ∷ []) x.blocks g.number g.genesis g.blocks own),
+          (λ y apart k. apart_from w.rows p.number y.number b.height (block_bytes b) y.genesis y.blocks apart k) h.rows_are
+          (are_of rows p.number x.number p.genesis x.genesis (p.blocks ++ b ∷ []) x.blocks g.number g.genesis g.blocks own),
     )
 commit_rows w node p b (Err bad) e at h = (numbers_set w.nodes node p p at refl h.numbered, subst (All (RowsAre w.rows)) (sym (same_set w.nodes node p at)) h.rows_are)
 

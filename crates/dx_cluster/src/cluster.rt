@@ -194,7 +194,12 @@ impl Cluster {
     }
 
     /// A node commits the block of a slot, whose bytes become one of the node's rows.
-    fn commit<K: Keeper>(&mut self, node: u32, slot: u32, keeper: &mut K) -> Result<Answer, StartFault>
+    fn commit<K: Keeper>(
+        &mut self,
+        node: u32,
+        slot: u32,
+        keeper: &mut K,
+    ) -> Result<Answer, StartFault>
         requires stands { StandsForSome self.old }
         requires there { node < length self.old.nodes.items }
         ensures done { IfOk result (λ answer. (w : World) → Stands self.old w → KeepsRows (K.rows keeper.old) w

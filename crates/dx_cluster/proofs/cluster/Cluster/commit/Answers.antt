@@ -23,7 +23,7 @@ pub returns-clause-done : goal.returns-clause-done
 returns-clause-done g c =
     both_done c.commit_block.result _ _ _ (λ answer acts kept w st h. (
       with_rows _ _ _ _
-      (slot_acted c.args.self.now _ w c.args.node c.args.slot commit_slot c.in-Some.block.now c.index_mut.result.now c.commit_block.new.node answer st c.requires.there c.in-Some.ensures c.index_mut.ensures.value acts (committing_idle (Some c.in-Some.block.now)) refl refl),
+          (slot_acted c.args.self.now _ w c.args.node c.args.slot commit_slot c.in-Some.block.now c.index_mut.result.now c.commit_block.new.node answer st c.requires.there c.in-Some.ensures c.index_mut.ensures.value acts (committing_idle (Some c.in-Some.block.now)) refl refl),
       commit_kept c.args.self.now w c.args.node c.args.slot c.in-Some.block.now c.index_mut.result.now (g.K.Keeper.rows c.args.keeper.now) _ st c.requires.there c.in-Some.ensures c.index_mut.ensures.value kept h,
     ))
     c.commit_block.ensures.done c.commit_block.ensures.kept
