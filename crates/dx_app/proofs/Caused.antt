@@ -1,137 +1,219 @@
 -- How a run ends, and its cause.
-use Rattle.std.proofs.Common.{◌≡◌, ◌-◌, ◌⊎◌, ◌↔◌, inl, inr, ℕ, true, false, IsTrue, List, [], ◌∷◌, MatchBool, Option, refl, sym, ap, subst, ◌∙◌, arith, lit<, lit≤}
-use Rattle.std.specs.Io.KnownBytes.{Appends}
+use Rattle.std.proofs.Common.{◌≡◌, ◌-◌, ◌⊎◌, ◌↔◌, inl, inr, ℕ, Bool, true, false, IsTrue, List, [], ◌∷◌, MatchBool, Option, Some, None, refl, sym, ap, subst, ◌∙◌, arith, lit<, lit≤}
 use Rattle.dx_types.specs.declared.status.Status.{Status}
 use Rattle.dx_types.specs.declared.status.Status.TheVariants as ends
+use Rattle.dx_types.specs.declared.Genesis.{Genesis}
+use Rattle.dx_io.specs.Rows.{Rows}
+use Rattle.dx_history.specs.Chains.{Unkept, BadAt, OtherGenesis}
+use Rattle.dx_app.specs.Lines.{cut}
 use Rattle.dx_app.specs.Output.{AppendsFront}
-use Rattle.dx_app.specs.Transcript.{Told, line_limit, scenario, transcript}
-use Rattle.dx_app.specs.Runs.{is_fault, Says, IsRunOf}
-use Rattle.dx_app.specs.Causes.{faults, IsGoodScenario, IsFirstBad, IsTooLong, IsTaken, HadSurely, ComesExactly, IsWhole}
-use Rattle.dx_app.proofs.Endings.{is_end_of_lines, lines_end, scenario_status, done_there, done_only, bad_there, bad_only, long_there, long_only}
+use Rattle.dx_app.specs.Transcript.{Told, line_limit, genesis_in, unkept_status, scenario, transcript}
+use Rattle.dx_app.specs.Runs.{is_fault, EndsAs, Says, IsRunOf}
+use Rattle.dx_app.specs.Causes.{faults, IsStarted, IsGoodScenario, IsFirstBad, IsTooLong, IsKeptBad, IsKeptOther, IsTaken, HadSurely, ComesExactly, IsWhole}
+use Rattle.dx_app.proofs.Starting.{start_fault, or_start, started_law, start_refused, kept_bad_law, kept_other_law}
+use Rattle.dx_app.proofs.Endings.{is_end_of_lines, lines_end, end_by, scenario_status, done_there, done_only, bad_there, bad_only, long_there, long_only}
 use Rattle.dx_app.proofs.Limits.{follows_limit}
 
+-- the status of the lines, and that of nodes that are not started
+abbrev lines_status : List ℕ → Status
+lines_status input = end_by line_limit 1 (faults input)
+
+abbrev start_of : Rows → List ℕ → Option Status
+start_of rows input = start_fault rows (genesis_in (cut input).lines)
+
+unkept_ends : (g : Genesis) (node : ℕ) (unkept : Unkept) → is_end_of_lines (unkept_status g node unkept) ≡ false
+unkept_ends g node (BadAt height) = refl
+unkept_ends g node (OtherGenesis theirs) = refl
+
+start_ends : (rows : Rows) (input : List ℕ) (s : Status) → start_of rows input ≡ Some s → is_end_of_lines s ≡ false
+start_ends rows input s e = let r = start_refused rows (genesis_in (cut input).lines) s e in ap is_end_of_lines (sym r.told) ∙ unkept_ends r.genesis r.node r.unkept
+
+by_lines : (o : Option Status) (rest s : Status) → is_end_of_lines s ≡ true → ((k : Status) → o ≡ Some k → is_end_of_lines k ≡ false) → or_start o rest ≡ s → (o ≡ None) × (rest ≡ s)
+by_lines None rest s ends h e = (refl, e)
+by_lines (Some k) rest s ends h e = let no : is_end_of_lines k ≡ true = ap is_end_of_lines e ∙ ends in let other = h k refl in absurd (cc)
+
+by_start : (o : Option Status) (rest s : Status) → is_end_of_lines s ≡ false → is_end_of_lines rest ≡ true → or_start o rest ≡ s → o ≡ Some s
+by_start None rest s ends h e = let no : is_end_of_lines s ≡ true = ap is_end_of_lines (sym e) ∙ h in absurd (cc)
+by_start (Some k) rest s ends h e = ap Some e
+
+-- a run ends as its lines say exactly where the nodes are started
+lines_law : (rows : Rows) (input : List ℕ) (s : Status) → is_end_of_lines s ≡ true → ((scenario rows input).status ≡ s) ↔ (IsStarted rows input × (lines_status input ≡ s))
+lines_law rows input s ends = (
+  λ e.
+      let both = by_lines (start_of rows input) (lines_status input) s ends (start_ends rows input) (sym (scenario_status rows input) ∙ e) in
+      ((started_law rows input).0 both.0, both.1),
+  λ h. scenario_status rows input ∙ ap (λ o. or_start o (lines_status input)) ((started_law rows input).1 h.0) ∙ h.1,
+)
+
+-- it ends for a node that is not started exactly where there is one
+start_law : (rows : Rows) (input : List ℕ) (s : Status) → is_end_of_lines s ≡ false → ((scenario rows input).status ≡ s) ↔ (start_of rows input ≡ Some s)
+start_law rows input s ends = (
+  λ e. by_start (start_of rows input) (lines_status input) s ends (lines_end line_limit 1 (faults input)) (sym (scenario_status rows input) ∙ e),
+  λ h. scenario_status rows input ∙ ap (λ o. or_start o (lines_status input)) h,
+)
+
 -- a run of lines is done exactly for a good scenario
-good_law : (input : List ℕ) → ((scenario input).status ≡ ends.Done) ↔ IsGoodScenario input
-good_law input = (
-  λ e. let both = done_only line_limit 1 (faults input) (lit≤ tt) (sym (scenario_status input) ∙ e) in record { good = both.0; few = omega (arith, both.1) },
-  λ h. scenario_status input ∙ done_there line_limit 1 (faults input) h.good (omega (arith, h.few)),
+good_law : (rows : Rows) (input : List ℕ) → ((scenario rows input).status ≡ ends.Done) ↔ IsGoodScenario rows input
+good_law rows input = (
+  λ e.
+      let l = (lines_law rows input ends.Done refl).0 e in
+      let both = done_only line_limit 1 (faults input) (lit≤ tt) l.1 in
+      record { good = both.0; few = omega (arith, both.1); started = l.0 },
+  λ h. (lines_law rows input ends.Done refl).1 (h.started, done_there line_limit 1 (faults input) h.good (omega (arith, h.few))),
 )
 
 -- it ends at a bad line exactly where that is the first
-bad_law : (line field : ℕ) (input : List ℕ) → ((scenario input).status ≡ ends.BadLine line field) ↔ IsFirstBad input line field
-bad_law line field input = (
+bad_law : (rows : Rows) (line field : ℕ) (input : List ℕ) → ((scenario rows input).status ≡ ends.BadLine line field) ↔ IsFirstBad rows input line field
+bad_law rows line field input = (
   λ e.
-      let r = bad_only line_limit 1 (faults input) line field (sym (scenario_status input) ∙ e) in
+      let l = (lines_law rows input (ends.BadLine line field) refl).0 e in
+      let r = bad_only line_limit 1 (faults input) line field l.1 in
       let place : line - 1 ≡ r.place = omega (arith, r.at) in
-      record { first = omega (arith, r.at); last = r.last; bad = rw place r.bad; before = rw place r.before },
-  λ h. scenario_status input ∙ bad_there line_limit 1 line (line - 1) field (faults input) h.bad h.before (omega (arith, h.first)) h.last,
+      record { first = omega (arith, r.at); last = r.last; bad = rw place r.bad; before = rw place r.before; started = l.0 },
+  λ h. (lines_law rows input (ends.BadLine line field) refl).1 (h.started, bad_there line_limit 1 line (line - 1) field (faults input) h.bad h.before (omega (arith, h.first)) h.last),
 )
 
 -- it ends as too long exactly where a byte follows too many lines
-long_law : (input : List ℕ) → ((scenario input).status ≡ ends.Long) ↔ IsTooLong input
-long_law input = (
+long_law : (rows : Rows) (input : List ℕ) → ((scenario rows input).status ≡ ends.Long) ↔ IsTooLong rows input
+long_law rows input = (
   λ e.
-      let both = long_only line_limit 1 line_limit (faults input) (omega arith) (sym (scenario_status input) ∙ e) in
-      record { follows = (follows_limit line_limit input (lit< tt)).1 both.1; before = both.0 },
-  λ h. scenario_status input ∙ long_there line_limit 1 line_limit (faults input) h.before ((follows_limit line_limit input (lit< tt)).0 h.follows) (omega arith),
+      let l = (lines_law rows input ends.Long refl).0 e in
+      let both = long_only line_limit 1 line_limit (faults input) (omega arith) l.1 in
+      record { follows = (follows_limit line_limit input (lit< tt)).1 both.1; before = both.0; started = l.0 },
+  λ h. (lines_law rows input ends.Long refl).1 (h.started, long_there line_limit 1 line_limit (faults input) h.before ((follows_limit line_limit input (lit< tt)).0 h.follows) (omega arith)),
 )
 
--- it never ends for its words or for what is kept
-other_law : (input : List ℕ) (s : Status) → is_end_of_lines s ≡ false → (scenario input).status ≡ s → ⊥
-other_law input s h e =
-    let k : is_end_of_lines s ≡ true = subst (λ t. is_end_of_lines t ≡ true) (sym (scenario_status input) ∙ e) (lines_end line_limit 1 (faults input)) in
-    cc
+-- it ends for kept rows exactly where they are none of the genesis
+bad_kept_law : (rows : Rows) (node height : ℕ) (input : List ℕ) → ((scenario rows input).status ≡ ends.KeptBad node height) ↔ IsKeptBad rows input node height
+bad_kept_law rows node height input = (
+  λ e. (kept_bad_law rows input node height).0 ((start_law rows input (ends.KeptBad node height) refl).0 e),
+  λ h. (start_law rows input (ends.KeptBad node height) refl).1 ((kept_bad_law rows input node height).1 h),
+)
+
+other_kept_law : (rows : Rows) (node : ℕ) (theirs ours : List ℕ) (input : List ℕ) → ((scenario rows input).status ≡ ends.KeptOther node theirs ours) ↔ IsKeptOther rows input node theirs ours
+other_kept_law rows node theirs ours input = (
+  λ e. (kept_other_law rows input node theirs ours).0 ((start_law rows input (ends.KeptOther node theirs ours) refl).0 e),
+  λ h. (start_law rows input (ends.KeptOther node theirs ours) refl).1 ((kept_other_law rows input node theirs ours).1 h),
+)
+
+-- it never ends for its words
+no_usage : (rows : Rows) (input : List ℕ) → (scenario rows input).status ≡ ends.Usage → ⊥
+no_usage rows input e =
+    let r = start_refused rows (genesis_in (cut input).lines) ends.Usage ((start_law rows input ends.Usage refl).0 e) in
+    never_told r.genesis r.node r.unkept r.told
+  where
+    never_told : (g : Genesis) (node : ℕ) (unkept : Unkept) → unkept_status g node unkept ≡ ends.Usage → ⊥
+    never_told g node (BadAt height) e = cc
+    never_told g node (OtherGenesis theirs) e = cc
 
 -- a status that is told of an input, where no fault ended the run
-told_status : (before now : Option (List ℕ)) (t : Told) (s : Status) → is_fault s ≡ false → Says before now t s → s ≡ t.status
-told_status before now t s plain said = let told : Appends before now t.bytes × (s ≡ t.status) = rw plain at said in told.1
+told_status : (before now : Option (List ℕ)) (k : Option Rows) (t : Told) (s : Status) → is_fault s ≡ false → Says before now k t s → s ≡ t.status
+told_status before now k t s plain said = let told : EndsAs before now k t s = rw plain at said in told.1
 
-told_or_fault : (before now : Option (List ℕ)) (t : Told) (s : Status) → Says before now t s → (s ≡ t.status) ⊎ IsTrue (is_fault s)
-told_or_fault before now t s said =
-    elim (is_fault s) as (λ b. MatchBool b (AppendsFront before now t.bytes) (Appends before now t.bytes × (s ≡ t.status)) → (s ≡ t.status) ⊎ IsTrue b) [
+told_or_fault : (before now : Option (List ℕ)) (k : Option Rows) (t : Told) (s : Status) → Says before now k t s → (s ≡ t.status) ⊎ IsTrue (is_fault s)
+told_or_fault before now k t s said =
+    elim (is_fault s) as (λ b. MatchBool b (AppendsFront before now t.bytes) (EndsAs before now k t s) → (s ≡ t.status) ⊎ IsTrue b) [
       | true ↦ λ _. inr refl
       | false ↦ λ told. inl told.1
     ] said
 
--- a status comes exactly by the kind of input of which it is told
-comes_by : (whole : List ℕ → Told) (IsOfKind : List ℕ → Type 0) (left before now : Option (List ℕ)) (s status : Status) → IsRunOf whole left before now s → is_fault status ≡ false
-    → ((input : List ℕ) → ((whole input).status ≡ status) ↔ IsOfKind input) → ComesExactly left s status IsOfKind
-comes_by whole IsOfKind left before now s status r plain law = record {
-  only = λ e. (r.input, r.is, (law r.input).0 (sym (told_status before now (whole r.input) s (ap is_fault e ∙ plain) r.said) ∙ e));
-  there = λ surely.
-      elim (told_or_fault before now (whole r.input) s r.said) [
-        | inl told ↦ inl (told ∙ (law r.input).1 (surely r.input r.is))
-        | inr fault ↦ inr fault
-      ];
-}
+module _ (whole : List ℕ → Told) (left before now : Option (List ℕ)) (k : Option Rows) (s : Status) (r : IsRunOf whole left before now k s) where
+  -- a status comes exactly by the kind of input of which it is told
+  comes_by : (IsOfKind : List ℕ → Type 0) (status : Status) → is_fault status ≡ false → ((input : List ℕ) → ((whole input).status ≡ status) ↔ IsOfKind input) → ComesExactly left s status IsOfKind
+  comes_by IsOfKind status plain law = record {
+    only = λ e. (r.input, r.is, (law r.input).0 (sym (told_status before now k (whole r.input) s (ap is_fault e ∙ plain) r.said) ∙ e));
+    there = λ surely.
+        elim (told_or_fault before now k (whole r.input) s r.said) [
+          | inl told ↦ inl (told ∙ (law r.input).1 (surely r.input r.is))
+          | inr fault ↦ inr fault
+        ];
+  }
 
--- a status that is told of no input never comes
-never_by : (whole : List ℕ → Told) (left before now : Option (List ℕ)) (s status : Status) → IsRunOf whole left before now s → is_fault status ≡ false
-    → ((input : List ℕ) → (whole input).status ≡ status → ⊥) → s ≡ status → ⊥
-never_by whole left before now s status r plain law e = law r.input (sym (told_status before now (whole r.input) s (ap is_fault e ∙ plain) r.said) ∙ e)
+  -- a status that is told of no input never comes
+  never_by : (status : Status) → is_fault status ≡ false → ((input : List ℕ) → (whole input).status ≡ status → ⊥) → s ≡ status → ⊥
+  never_by status plain law e = law r.input (sym (told_status before now k (whole r.input) s (ap is_fault e ∙ plain) r.said) ∙ e)
 
--- a run whose every input is told to be done is done, or there was no memory, where neither count rose
-whole_by : (whole : List ℕ → Told) (left before now : Option (List ℕ)) (s : Status) (ReadRose WriteRose : Type 0) → IsRunOf whole left before now s
-    → (s ≡ ends.ReadFault → ReadRose) → (s ≡ ends.WriteFault → WriteRose) → (s ≡ ends.KeepFault → ⊥) → HadSurely left (λ input. (whole input).status ≡ ends.Done) → ¬ ReadRose → ¬ WriteRose → IsWhole whole left before now s
-whole_by whole left before now ends.ReadFault ReadRose WriteRose r read write keep surely calm quiet = absurd (calm (read refl))
-whole_by whole left before now ends.WriteFault ReadRose WriteRose r read write keep surely calm quiet = absurd (quiet (write refl))
-whole_by whole left before now ends.KeepFault ReadRose WriteRose r read write keep surely calm quiet = absurd (keep refl)
-whole_by whole left before now ends.NoMemory ReadRose WriteRose r read write keep surely calm quiet = inr refl
-whole_by whole left before now ends.Done ReadRose WriteRose r read write keep surely calm quiet = inl (refl, (r.input, r.is, r.said.0))
-whole_by whole left before now (ends.BadLine line field) ReadRose WriteRose r read write keep surely calm quiet = let e : ends.BadLine line field ≡ ends.Done = r.said.1 ∙ surely r.input r.is in absurd (cc)
-whole_by whole left before now ends.Usage ReadRose WriteRose r read write keep surely calm quiet = let e : ends.Usage ≡ ends.Done = r.said.1 ∙ surely r.input r.is in absurd (cc)
-whole_by whole left before now (ends.KeptBad node height) ReadRose WriteRose r read write keep surely calm quiet = let e : ends.KeptBad node height ≡ ends.Done = r.said.1 ∙ surely r.input r.is in absurd (cc)
-whole_by whole left before now (ends.KeptOther node kept ours) ReadRose WriteRose r read write keep surely calm quiet = let e : ends.KeptOther node kept ours ≡ ends.Done = r.said.1 ∙ surely r.input r.is in absurd (cc)
-whole_by whole left before now ends.Long ReadRose WriteRose r read write keep surely calm quiet = let e : ends.Long ≡ ends.Done = r.said.1 ∙ surely r.input r.is in absurd (cc)
+-- where the told status is another, no fault ended the run, and it is done, it is that of the input
+done_or_memory : (s : Status) (ReadRose WriteRose KeepRose : Type 0) → (s ≡ ends.ReadFault → ReadRose) → (s ≡ ends.WriteFault → WriteRose) → (s ≡ ends.KeepFault → KeepRose) → ¬ ReadRose → ¬ WriteRose → ¬ KeepRose
+    → IsTrue (is_fault s) → s ≡ ends.NoMemory
+done_or_memory ends.ReadFault R W K read write keep r w k f = absurd (r (read refl))
+done_or_memory ends.WriteFault R W K read write keep r w k f = absurd (w (write refl))
+done_or_memory ends.KeepFault R W K read write keep r w k f = absurd (k (keep refl))
+done_or_memory ends.NoMemory R W K read write keep r w k f = refl
+done_or_memory ends.Done R W K read write keep r w k f = absurd (cc)
+done_or_memory (ends.BadLine line field) R W K read write keep r w k f = absurd (cc)
+done_or_memory ends.Usage R W K read write keep r w k f = absurd (cc)
+done_or_memory (ends.KeptBad node height) R W K read write keep r w k f = absurd (cc)
+done_or_memory (ends.KeptOther node theirs ours) R W K read write keep r w k f = absurd (cc)
+done_or_memory ends.Long R W K read write keep r w k f = absurd (cc)
 
--- a run of lines: each status by its cause
-pub lines_good : (left before now : Option (List ℕ)) (s : Status) → IsRunOf scenario left before now s → ComesExactly left s ends.Done IsGoodScenario
-lines_good left before now s r = comes_by scenario IsGoodScenario left before now s ends.Done r refl good_law
+-- a run whose every input is told to be done is done, or there was no memory, where no count rose
+whole_by : (whole : List ℕ → Told) (left before now : Option (List ℕ)) (k : Option Rows) (s : Status) (ReadRose WriteRose KeepRose : Type 0) → IsRunOf whole left before now k s
+    → (s ≡ ends.ReadFault → ReadRose) → (s ≡ ends.WriteFault → WriteRose) → (s ≡ ends.KeepFault → KeepRose) → HadSurely left (λ input. (whole input).status ≡ ends.Done)
+    → ¬ ReadRose → ¬ WriteRose → ¬ KeepRose → IsWhole whole left before now k s
+whole_by whole left before now k s R W K run read write keep surely r w q =
+    elim (told_or_fault before now k (whole run.input) s run.said) [
+      | inl told ↦ let done : s ≡ ends.Done = told ∙ surely run.input run.is in inl (done, (run.input, run.is, (let all : EndsAs before now k (whole run.input) s = rw (ap is_fault done) at run.said in all)))
+      | inr fault ↦ inr (done_or_memory s R W K read write keep r w q fault)
+    ]
 
-pub lines_bad : (left before now : Option (List ℕ)) (s : Status) (line field : ℕ) → IsRunOf scenario left before now s → ComesExactly left s (ends.BadLine line field) (λ input. IsFirstBad input line field)
-lines_bad left before now s line field r = comes_by scenario (λ input. IsFirstBad input line field) left before now s (ends.BadLine line field) r refl (bad_law line field)
+module _ (rows : Rows) (left before now : Option (List ℕ)) (k : Option Rows) (s : Status) (r : IsRunOf (scenario rows) left before now k s) where
+  -- a run of lines: each status by its cause
+  pub lines_good : ComesExactly left s ends.Done (IsGoodScenario rows)
+  lines_good = comes_by (scenario rows) left before now k s r (IsGoodScenario rows) ends.Done refl (good_law rows)
 
-pub lines_long : (left before now : Option (List ℕ)) (s : Status) → IsRunOf scenario left before now s → ComesExactly left s ends.Long IsTooLong
-lines_long left before now s r = comes_by scenario IsTooLong left before now s ends.Long r refl long_law
+  pub lines_bad : (line field : ℕ) → ComesExactly left s (ends.BadLine line field) (λ input. IsFirstBad rows input line field)
+  lines_bad line field = comes_by (scenario rows) left before now k s r (λ input. IsFirstBad rows input line field) (ends.BadLine line field) refl (bad_law rows line field)
 
-pub lines_never : (left before now : Option (List ℕ)) (s status : Status) → IsRunOf scenario left before now s → is_fault status ≡ false → is_end_of_lines status ≡ false → s ≡ status → ⊥
-lines_never left before now s status r plain other e = never_by scenario left before now s status r plain (λ input k. other_law input status other k) e
+  pub lines_long : ComesExactly left s ends.Long (IsTooLong rows)
+  lines_long = comes_by (scenario rows) left before now k s r (IsTooLong rows) ends.Long refl (long_law rows)
 
-pub lines_whole : (left before now : Option (List ℕ)) (s : Status) (ReadRose WriteRose : Type 0) → IsRunOf scenario left before now s
-    → (s ≡ ends.ReadFault → ReadRose) → (s ≡ ends.WriteFault → WriteRose) → (s ≡ ends.KeepFault → ⊥) → HadSurely left IsGoodScenario → ¬ ReadRose → ¬ WriteRose → IsWhole scenario left before now s
-lines_whole left before now s ReadRose WriteRose r read write keep surely calm quiet = whole_by scenario left before now s ReadRose WriteRose r read write keep (λ input is. (good_law input).1 (surely input is)) calm quiet
+  pub lines_kept_bad : (node height : ℕ) → ComesExactly left s (ends.KeptBad node height) (λ input. IsKeptBad rows input node height)
+  lines_kept_bad node height = comes_by (scenario rows) left before now k s r (λ input. IsKeptBad rows input node height) (ends.KeptBad node height) refl (bad_kept_law rows node height)
+
+  pub lines_kept_other : (node : ℕ) (theirs ours : List ℕ) → ComesExactly left s (ends.KeptOther node theirs ours) (λ input. IsKeptOther rows input node theirs ours)
+  lines_kept_other node theirs ours = comes_by (scenario rows) left before now k s r (λ input. IsKeptOther rows input node theirs ours) (ends.KeptOther node theirs ours) refl (other_kept_law rows node theirs ours)
+
+  pub lines_no_usage : s ≡ ends.Usage → ⊥
+  lines_no_usage e = never_by (scenario rows) left before now k s r ends.Usage refl (no_usage rows) e
+
+  pub lines_whole : (ReadRose WriteRose KeepRose : Type 0) → (s ≡ ends.ReadFault → ReadRose) → (s ≡ ends.WriteFault → WriteRose) → (s ≡ ends.KeepFault → KeepRose)
+      → HadSurely left (IsGoodScenario rows) → ¬ ReadRose → ¬ WriteRose → ¬ KeepRose → IsWhole (scenario rows) left before now k s
+  lines_whole R W K read write keep surely calm quiet still = whole_by (scenario rows) left before now k s R W K r read write keep (λ input is. (good_law rows input).1 (surely input is)) calm quiet still
 
 -- what holds of the lines holds of a run whose words are taken, and a run whose words are not taken ends as it is told
-words_law : {A : Type 0} (words : List A) (status : Status) (IsOfKind : List ℕ → Type 0) → (ends.Usage ≡ status → ⊥) → ((input : List ℕ) → ((scenario input).status ≡ status) ↔ IsOfKind input)
-    → (input : List ℕ) → ((transcript words input).status ≡ status) ↔ (IsTaken words × IsOfKind input)
-words_law [] status IsOfKind other law input = (λ e. (refl, (law input).0 e), λ both. (law input).1 both.1)
-words_law (word ∷ more) status IsOfKind other law input = (λ e. absurd (other e), λ both. let no : word ∷ more ≡ [] = both.0 in absurd (cc))
+words_law : {A : Type 0} (words : List A) (rows : Rows) (status : Status) (IsOfKind : List ℕ → Type 0) → (ends.Usage ≡ status → ⊥) → ((input : List ℕ) → ((scenario rows input).status ≡ status) ↔ IsOfKind input)
+    → (input : List ℕ) → ((transcript words rows input).status ≡ status) ↔ (IsTaken words × IsOfKind input)
+words_law [] rows status IsOfKind other law input = (λ e. (refl, (law input).0 e), λ both. (law input).1 both.1)
+words_law (word ∷ more) rows status IsOfKind other law input = (λ e. absurd (other e), λ both. let no : word ∷ more ≡ [] = both.0 in absurd (cc))
 
-usage_law : {A : Type 0} (words : List A) (input : List ℕ) → ((transcript words input).status ≡ ends.Usage) ↔ (IsTaken words → ⊥)
-usage_law [] input = (λ e. absurd (other_law input ends.Usage refl e), λ untaken. absurd (untaken refl))
-usage_law (word ∷ more) input = (λ e taken. let no : word ∷ more ≡ [] = taken in absurd (cc), λ untaken. refl)
+usage_law : {A : Type 0} (words : List A) (rows : Rows) (input : List ℕ) → ((transcript words rows input).status ≡ ends.Usage) ↔ (IsTaken words → ⊥)
+usage_law [] rows input = (λ e. absurd (no_usage rows input e), λ untaken. absurd (untaken refl))
+usage_law (word ∷ more) rows input = (λ e taken. let no : word ∷ more ≡ [] = taken in absurd (cc), λ untaken. refl)
 
-kept_law : {A : Type 0} (words : List A) (input : List ℕ) (s : Status) → is_end_of_lines s ≡ false → (ends.Usage ≡ s → ⊥) → (transcript words input).status ≡ s → ⊥
-kept_law [] input s h other e = other_law input s h e
-kept_law (word ∷ more) input s h other e = other e
+module _ {A : Type 0} (words : List A) (rows : Rows) (left before now : Option (List ℕ)) (k : Option Rows) (s : Status) (r : IsRunOf (transcript words rows) left before now k s) where
+  taken_by : (IsOfKind : List ℕ → Type 0) (status : Status) → is_fault status ≡ false → (ends.Usage ≡ status → ⊥) → ((input : List ℕ) → ((scenario rows input).status ≡ status) ↔ IsOfKind input) → ComesExactly left s status (λ input. IsTaken words × IsOfKind input)
+  taken_by IsOfKind status plain other law = comes_by (transcript words rows) left before now k s r (λ input. IsTaken words × IsOfKind input) status plain (words_law words rows status IsOfKind other law)
 
-pub run_good : {A : Type 0} (words : List A) (left before now : Option (List ℕ)) (s : Status) → IsRunOf (transcript words) left before now s → ComesExactly left s ends.Done (λ input. IsTaken words × IsGoodScenario input)
-run_good words left before now s r = comes_by (transcript words) (λ input. IsTaken words × IsGoodScenario input) left before now s ends.Done r refl (words_law words ends.Done IsGoodScenario (λ e. cc) good_law)
+  pub run_good : ComesExactly left s ends.Done (λ input. IsTaken words × IsGoodScenario rows input)
+  run_good = taken_by (IsGoodScenario rows) ends.Done refl (λ e. cc) (good_law rows)
 
-pub run_bad : {A : Type 0} (words : List A) (left before now : Option (List ℕ)) (s : Status) (line field : ℕ) → IsRunOf (transcript words) left before now s → ComesExactly left s (ends.BadLine line field) (λ input. IsTaken words × IsFirstBad input line field)
-run_bad words left before now s line field r =
-    comes_by (transcript words) (λ input. IsTaken words × IsFirstBad input line field) left before now s (ends.BadLine line field) r refl (words_law words (ends.BadLine line field) (λ input. IsFirstBad input line field) (λ e. cc) (bad_law line field))
+  pub run_bad : (line field : ℕ) → ComesExactly left s (ends.BadLine line field) (λ input. IsTaken words × IsFirstBad rows input line field)
+  run_bad line field = taken_by (λ input. IsFirstBad rows input line field) (ends.BadLine line field) refl (λ e. cc) (bad_law rows line field)
 
-pub run_long : {A : Type 0} (words : List A) (left before now : Option (List ℕ)) (s : Status) → IsRunOf (transcript words) left before now s → ComesExactly left s ends.Long (λ input. IsTaken words × IsTooLong input)
-run_long words left before now s r = comes_by (transcript words) (λ input. IsTaken words × IsTooLong input) left before now s ends.Long r refl (words_law words ends.Long IsTooLong (λ e. cc) long_law)
+  pub run_long : ComesExactly left s ends.Long (λ input. IsTaken words × IsTooLong rows input)
+  run_long = taken_by (IsTooLong rows) ends.Long refl (λ e. cc) (long_law rows)
 
-pub run_usage : {A : Type 0} (words : List A) (left before now : Option (List ℕ)) (s : Status) → IsRunOf (transcript words) left before now s → ComesExactly left s ends.Usage (λ input. IsTaken words → ⊥)
-run_usage words left before now s r = comes_by (transcript words) (λ input. IsTaken words → ⊥) left before now s ends.Usage r refl (usage_law words)
+  pub run_kept_bad : (node height : ℕ) → ComesExactly left s (ends.KeptBad node height) (λ input. IsTaken words × IsKeptBad rows input node height)
+  run_kept_bad node height = taken_by (λ input. IsKeptBad rows input node height) (ends.KeptBad node height) refl (λ e. cc) (bad_kept_law rows node height)
 
-pub run_never : {A : Type 0} (words : List A) (left before now : Option (List ℕ)) (s status : Status) → IsRunOf (transcript words) left before now s → is_fault status ≡ false → is_end_of_lines status ≡ false → (ends.Usage ≡ status → ⊥) → s ≡ status → ⊥
-run_never words left before now s status r plain other words_other e = never_by (transcript words) left before now s status r plain (λ input k. kept_law words input status other words_other k) e
+  pub run_kept_other : (node : ℕ) (theirs ours : List ℕ) → ComesExactly left s (ends.KeptOther node theirs ours) (λ input. IsTaken words × IsKeptOther rows input node theirs ours)
+  run_kept_other node theirs ours = taken_by (λ input. IsKeptOther rows input node theirs ours) (ends.KeptOther node theirs ours) refl (λ e. cc) (other_kept_law rows node theirs ours)
 
-pub run_whole : {A : Type 0} (words : List A) (left before now : Option (List ℕ)) (s : Status) (ReadRose WriteRose : Type 0) → IsRunOf (transcript words) left before now s
-    → (s ≡ ends.ReadFault → ReadRose) → (s ≡ ends.WriteFault → WriteRose) → (s ≡ ends.KeepFault → ⊥) → IsTaken words → HadSurely left IsGoodScenario → ¬ ReadRose → ¬ WriteRose → IsWhole (transcript words) left before now s
-run_whole words left before now s ReadRose WriteRose r read write keep taken surely calm quiet =
-    whole_by (transcript words) left before now s ReadRose WriteRose r read write keep (λ input is. (words_law words ends.Done IsGoodScenario (λ e. cc) good_law input).1 (taken, surely input is)) calm quiet
+  pub run_usage : ComesExactly left s ends.Usage (λ input. IsTaken words → ⊥)
+  run_usage = comes_by (transcript words rows) left before now k s r (λ input. IsTaken words → ⊥) ends.Usage refl (usage_law words rows)
+
+  pub run_whole : (ReadRose WriteRose KeepRose : Type 0) → (s ≡ ends.ReadFault → ReadRose) → (s ≡ ends.WriteFault → WriteRose) → (s ≡ ends.KeepFault → KeepRose)
+      → IsTaken words → HadSurely left (IsGoodScenario rows) → ¬ ReadRose → ¬ WriteRose → ¬ KeepRose → IsWhole (transcript words rows) left before now k s
+  run_whole R W K read write keep taken surely calm quiet still =
+      whole_by (transcript words rows) left before now k s R W K r read write keep (λ input is. (words_law words rows ends.Done (IsGoodScenario rows) (λ e. cc) (good_law rows) input).1 (taken, surely input is)) calm quiet still

@@ -5,11 +5,16 @@ use Rattle.std.proofs.lemmas.List.Elements.{All-nil, All-cons, All-head, All-tai
 use Rattle.dx_types.specs.declared.status.Status.{Status}
 use Rattle.dx_types.specs.declared.status.Status.TheVariants as ends
 use Rattle.dx_scenario.specs.Genesis.{genesis_of}
-use Rattle.dx_cluster.specs.World.{World, world_of, step}
-use Rattle.dx_cluster.proofs.Counting.{world_count, step_keeps}
+use Rattle.dx_io.specs.Rows.{Rows}
+use Rattle.dx_history.specs.Chains.{Unkept}
+use Rattle.dx_types.specs.declared.Genesis.{Genesis}
+use Rattle.dx_scenario.specs.Events.{event_of}
+use Rattle.dx_cluster.specs.World.{World, opened, step}
+use Rattle.dx_cluster.proofs.Counting.{step_keeps}
 use Rattle.dx_app.specs.Lines.{longest_line, cut}
-use Rattle.dx_app.specs.Transcript.{Told, line_limit, ended, bad_line, or_bad, event_told, lines_told, genesis_told, scenario_told, scenario, built_event_of}
-use Rattle.dx_app.specs.Causes.{wrong_place, nodes_of, event_faults, line_faults, faults}
+use Rattle.dx_app.specs.Transcript.{Told, line_limit, ended, bad_line, or_bad, event_told, lines_told, genesis_told, genesis_in, scenario_told, scenario, unkept_status, started_told}
+use Rattle.dx_app.specs.Causes.{wrong_place, count_of, event_faults, line_faults, faults}
+use Rattle.dx_app.proofs.Starting.{opened_count, fault_in, start_fault, or_start}
 
 -- a line that is wrong ends the run
 abbrev pub or_wrong : ℕ → Option ℕ → Status → Status
@@ -22,35 +27,47 @@ end_by limit n [] = ends.Done
 end_by limit n (fault ∷ rest) = cond (nat_lt limit n) ends.Long (or_wrong n fault (end_by limit (suc n) rest))
 
 -- a line is tested in the order of its faults
-tested : {A : Type 0} (over long : Bool) (n : ℕ) (reading : Result A ℕ) (told : A → Told) (rest : Status) → ((x : A) → reading ≡ Ok x → (told x).status ≡ rest)
-    → (cond over (ended ends.Long) (cond long (bad_line n 0) (or_bad n reading told))).status ≡ cond over ends.Long (or_wrong n (cond long (Some 0) (wrong_place reading)) rest)
-tested true long n reading told rest h = refl
-tested false true n reading told rest h = refl
-tested false false n (Err place) told rest h = refl
-tested false false n (Ok x) told rest h = h x refl
+tested : {A : Type 0} (rows : Rows) (over long : Bool) (n : ℕ) (reading : Result A ℕ) (told : A → Told) (rest : Status) → ((x : A) → reading ≡ Ok x → (told x).status ≡ rest)
+    → (cond over (ended ends.Long rows) (cond long (bad_line n 0 rows) (or_bad n rows reading told))).status ≡ cond over ends.Long (or_wrong n (cond long (Some 0) (wrong_place reading)) rest)
+tested rows true long n reading told rest h = refl
+tested rows false true n reading told rest h = refl
+tested rows false false n (Err place) told rest h = refl
+tested rows false false n (Ok x) told rest h = h x refl
 
-after_newline : (over : Bool) (n : ℕ) → (cond over (ended ends.Long) (bad_line n 0)).status ≡ cond over ends.Long (ends.BadLine n 0)
-after_newline true n = refl
-after_newline false n = refl
+after_newline : (rows : Rows) (over : Bool) (n : ℕ) → (cond over (ended ends.Long rows) (bad_line n 0 rows)).status ≡ cond over ends.Long (ends.BadLine n 0)
+after_newline rows true n = refl
+after_newline rows false n = refl
 
 -- the lines from the n-th on end a run by their faults
 later_status : (w : World) (n : ℕ) (lines : List (List ℕ)) (tail : List ℕ) → (lines_told w n lines tail).status ≡ end_by line_limit n (event_faults (length w.nodes) lines tail)
 unfolding lines_told
 later_status w n [] [] = refl
-later_status w n [] (b ∷ bytes) = after_newline (nat_lt line_limit n) n
+later_status w n [] (b ∷ bytes) = after_newline w.rows (nat_lt line_limit n) n
 later_status w n (line ∷ lines) tail =
-    tested (nat_lt line_limit n) (nat_lt longest_line (length line)) n (built_event_of (length w.nodes) line) (λ e. event_told n (step w e) (λ v. lines_told v (suc n) lines tail)) (end_by line_limit (suc n) (event_faults (length w.nodes) lines tail))
+    tested w.rows (nat_lt line_limit n) (nat_lt longest_line (length line)) n (event_of (length w.nodes) line) (λ e. event_told n (step w e) (λ v. lines_told v (suc n) lines tail)) (end_by line_limit (suc n) (event_faults (length w.nodes) lines tail))
     (λ e read. later_status (step w e).0 (suc n) lines tail ∙ ap (λ k. end_by line_limit (suc n) (event_faults k lines tail)) (step_keeps w e))
 
-opened_status : (lines : List (List ℕ)) (tail : List ℕ) → (scenario_told lines tail).status ≡ end_by line_limit 1 (line_faults lines tail)
-opened_status [] tail = refl
-opened_status (line ∷ lines) tail =
-    tested false (nat_lt longest_line (length line)) 1 (genesis_of line) (λ first. genesis_told first (λ w. lines_told w 2 lines tail)) (end_by line_limit 2 (event_faults (nodes_of (genesis_of line)) lines tail))
-    (λ first read. later_status (world_of first.0 first.1) 2 lines tail ∙ ap (λ k. end_by line_limit 2 (event_faults k lines tail)) (world_count first.0 first.1 ∙ sym (ap nodes_of read)))
+-- the nodes are started or not, and then the lines go on
+started_status : (g : Genesis) (rows : Rows) (step : Result World (ℕ × Unkept)) (next : World → Told) (rest : Status) → ((w : World) → step ≡ Ok w → (next w).status ≡ rest) → (started_told g rows step next).status ≡ or_start (fault_in g step) rest
+started_status g rows (Ok w) next rest h = h w refl
+started_status g rows (Err unkept) next rest h = refl
 
--- the lines of an input end its run by their faults
-pub scenario_status : (input : List ℕ) → (scenario input).status ≡ end_by line_limit 1 (faults input)
-scenario_status input = opened_status (cut input).lines (cut input).tail
+-- the first line is tested, and then the nodes are started
+first_tested : (rows : Rows) (long : Bool) (reading : Result (ℕ × Genesis) ℕ) (next : World → Told) (rest : ℕ → Status) → ((count : ℕ) (g : Genesis) (w : World) → opened count g rows ≡ Ok w → (next w).status ≡ rest count)
+    → (or_bad 1 rows (cond long (Err 0) reading) (λ first. genesis_told first rows next)).status ≡ or_start (start_fault rows (cond long (Err 0) reading)) (or_wrong 1 (cond long (Some 0) (wrong_place reading)) (rest (count_of reading)))
+first_tested rows true reading next rest h = refl
+first_tested rows false (Err place) next rest h = refl
+first_tested rows false (Ok first) next rest h = started_status first.1 rows (opened first.0 first.1 rows) next (rest first.0) (λ w e. h first.0 first.1 w e)
+
+opened_status : (rows : Rows) (lines : List (List ℕ)) (tail : List ℕ) → (scenario_told rows lines tail).status ≡ or_start (start_fault rows (genesis_in lines)) (end_by line_limit 1 (line_faults lines tail))
+opened_status rows [] tail = refl
+opened_status rows (line ∷ lines) tail =
+    first_tested rows (nat_lt longest_line (length line)) (genesis_of line) (λ w. lines_told w 2 lines tail) (λ count. end_by line_limit 2 (event_faults count lines tail))
+    (λ count g w e. later_status w 2 lines tail ∙ ap (λ k. end_by line_limit 2 (event_faults k lines tail)) (opened_count count g rows w e))
+
+-- the rows and the lines of an input end its run by their faults
+pub scenario_status : (rows : Rows) (input : List ℕ) → (scenario rows input).status ≡ or_start (start_fault rows (genesis_in (cut input).lines)) (end_by line_limit 1 (faults input))
+scenario_status rows input = opened_status rows (cut input).lines (cut input).tail
 
 -- no fault, and no line past the limit
 pub done_there : (limit n : ℕ) (fs : List (Option ℕ)) → All IsNone fs → n + length fs ≤ suc limit → end_by limit n fs ≡ ends.Done

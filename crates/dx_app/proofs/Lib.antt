@@ -1,9 +1,11 @@
 pub mod Outputs
 pub mod Newlines
 pub mod Runs
+pub mod Kept
+pub mod Opening
 pub mod Endings
 pub mod Limits
+pub mod Starting
 pub mod Caused
 pub mod Counts
 pub mod Prompt
-pub mod Serving

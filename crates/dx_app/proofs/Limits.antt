@@ -3,9 +3,9 @@ use Rattle.std.proofs.Common.{◌≡◌, ◌<◌, ◌≤◌, ◌+◌, ◌==◌, 
 use Rattle.std.proofs.lemmas.List.{length-map}
 use Rattle.std.proofs.lemmas.List.Sums.{sum_by-cons}
 use Rattle.dx_scenario.specs.Genesis.{genesis_of}
-use Rattle.dx_app.specs.Transcript.{built_event_of}
+use Rattle.dx_scenario.specs.Events.{event_of}
 use Rattle.dx_app.specs.Lines.{Input, newline, cut, with_byte}
-use Rattle.dx_app.specs.Causes.{fault_of, nodes_of, cut_fault, event_faults, line_faults, faults, FollowsNewlines}
+use Rattle.dx_app.specs.Causes.{fault_of, count_of, cut_fault, event_faults, line_faults, faults, FollowsNewlines}
 
 -- one for a newline
 abbrev one_at : ℕ → ℕ
@@ -96,15 +96,15 @@ cut_fault_small [] = omega arith
 cut_fault_small (b ∷ bytes) = omega arith
 
 fault_count : (nodes : ℕ) (lines : List (List ℕ)) (tail : List ℕ) → length (event_faults nodes lines tail) ≡ lines_in lines tail
-fault_count nodes lines tail = length-append (map (λ line. fault_of line (built_event_of nodes line)) lines) (cut_fault tail) ∙ ap (λ k. k + length (cut_fault tail)) (length-map lines (λ line. fault_of line (built_event_of nodes line)))
+fault_count nodes lines tail = length-append (map (λ line. fault_of line (event_of nodes line)) lines) (cut_fault tail) ∙ ap (λ k. k + length (cut_fault tail)) (length-map lines (λ line. fault_of line (event_of nodes line)))
 
 faults_over : (limit : ℕ) (lines : List (List ℕ)) (tail : List ℕ) → 0 < limit → limit < length (line_faults lines tail) → limit < lines_in lines tail
 faults_over limit [] tail some h = absurd (omega (arith, some, h))
-faults_over limit (line ∷ lines) tail some h = omega (arith, h, fault_count (nodes_of (genesis_of line)) lines tail)
+faults_over limit (line ∷ lines) tail some h = omega (arith, h, fault_count (count_of (genesis_of line)) lines tail)
 
 lines_over : (limit : ℕ) (lines : List (List ℕ)) (tail : List ℕ) → 0 < limit → limit < lines_in lines tail → limit < length (line_faults lines tail)
 lines_over limit [] tail some h = absurd (omega (arith, some, h, cut_fault_small tail))
-lines_over limit (line ∷ lines) tail some h = omega (arith, h, fault_count (nodes_of (genesis_of line)) lines tail)
+lines_over limit (line ∷ lines) tail some h = omega (arith, h, fault_count (count_of (genesis_of line)) lines tail)
 
 -- a byte follows so many newlines exactly where there are more lines
 pub follows_limit : (limit : ℕ) (input : List ℕ) → 0 < limit → FollowsNewlines limit input ↔ (limit < length (faults input))

@@ -1,13 +1,17 @@
 -- When each status comes: what is wrong in the lines of an input, and how a run ends for it.
-use Rattle.std.specs.Prelude.{◌≡◌, ℕ, ◌-◌, ◌<◌, ◌≤◌, ◌==◌, ◌⊎◌, nat_lt, if◌then◌else◌, IsTrue, List, [], ◌∷◌, ◌++◌, map, length, take, slice_get, All, count_by, Option, Some, None, IsNone, Result, Ok, Err}
-use Rattle.std.specs.Io.KnownBytes.{Appends}
+use Rattle.std.specs.Prelude.{◌≡◌, ℕ, ◌-◌, ◌<◌, ◌≤◌, ◌==◌, ◌⊎◌, nat_lt, if◌then◌else◌, IsTrue, List, [], ◌∷◌, ◌++◌, map, length, take, slice_get, All, count_by, Option, Some, None, IsNone, Result, Ok, Err, IsOk}
 use Rattle.dx_types.specs.declared.Genesis.{Genesis}
 use Rattle.dx_types.specs.declared.status.Status.{Status}
 use Rattle.dx_types.specs.declared.status.Status.TheVariants.{Done, NoMemory}
+use Rattle.dx_io.specs.Rows.{Rows}
+use Rattle.dx_codec.specs.Genesis.{digest_of}
+use Rattle.dx_history.specs.Chains.{Unkept, BadAt, OtherGenesis}
 use Rattle.dx_scenario.specs.Genesis.{genesis_of}
+use Rattle.dx_scenario.specs.Events.{event_of}
+use Rattle.dx_cluster.specs.World.{opened}
 use Rattle.dx_app.specs.Lines.{newline, longest_line, cut}
-use Rattle.dx_app.specs.Transcript.{Told, line_limit, built_event_of}
-use Rattle.dx_app.specs.Runs.{is_fault, IsInput}
+use Rattle.dx_app.specs.Transcript.{Told, line_limit, genesis_in}
+use Rattle.dx_app.specs.Runs.{is_fault, IsInput, EndsAs}
 
 -- the place of what is wrong in a reading, if anything is
 abbrev pub wrong_place : {A : Type 0} → Result A ℕ → Option ℕ
@@ -19,9 +23,9 @@ abbrev pub fault_of : {A : Type 0} → List ℕ → Result A ℕ → Option ℕ
 fault_of line reading = if nat_lt longest_line (length line) then Some 0 else wrong_place reading
 
 -- the number of nodes of a genesis, 0 where it is none
-abbrev pub nodes_of : Result (ℕ × Genesis) ℕ → ℕ
-nodes_of (Ok first) = first.0
-nodes_of (Err place) = 0
+abbrev pub count_of : Result (ℕ × Genesis) ℕ → ℕ
+count_of (Ok first) = first.0
+count_of (Err place) = 0
 
 -- bytes without a newline are one line, which is wrong at 0
 abbrev pub cut_fault : List ℕ → List (Option ℕ)
@@ -30,28 +34,48 @@ cut_fault (b ∷ bytes) = Some 0 ∷ []
 
 -- for each line from the second on what is wrong in it, where it is to be an event of so many nodes
 abbrev pub event_faults : ℕ → List (List ℕ) → List ℕ → List (Option ℕ)
-event_faults nodes lines tail = map (λ line. fault_of line (built_event_of nodes line)) lines ++ cut_fault tail
+event_faults nodes lines tail = map (λ line. fault_of line (event_of nodes line)) lines ++ cut_fault tail
 
 -- for each line what is wrong in it: there has to be a first line, which is a genesis, and the others are events
 abbrev pub line_faults : List (List ℕ) → List ℕ → List (Option ℕ)
 line_faults [] tail = Some 0 ∷ []
-line_faults (line ∷ lines) tail = fault_of line (genesis_of line) ∷ event_faults (nodes_of (genesis_of line)) lines tail
+line_faults (line ∷ lines) tail = fault_of line (genesis_of line) ∷ event_faults (count_of (genesis_of line)) lines tail
 
 -- for each line of an input what is wrong in it
 abbrev pub faults : List ℕ → List (Option ℕ)
 faults input = line_faults (cut input).lines (cut input).tail
 
--- a good genesis line and then events, each with its newline, and no more lines than may be read
-pub record IsGoodScenario (input : List ℕ) : Type 0 where
+-- where the first line is a genesis, each node of it is started: its rows are a chain of that genesis
+abbrev pub IsStarted : Rows → List ℕ → Type 0
+IsStarted rows input = (first : ℕ × Genesis) → genesis_in (cut input).lines ≡ Ok first → IsOk (opened first.0 first.1 rows)
+
+-- the first line is this genesis, and this node is the first that is not started, for this cause
+pub record IsUnkept (rows : Rows) (input : List ℕ) (g : Genesis) (node : ℕ) (unkept : Unkept) : Type 0 where
+  pub count : ℕ
+  pub genesis : genesis_in (cut input).lines ≡ Ok (count, g)
+  pub refused : opened count g rows ≡ Err (node, unkept)
+
+-- the first line is a genesis, and of the first node whose rows are no chain of it the row at this height is the first bad one
+abbrev pub IsKeptBad : Rows → List ℕ → ℕ → ℕ → Type 0
+IsKeptBad rows input node height = (g : Genesis) × IsUnkept rows input g node (BadAt height)
+
+-- the first line is a genesis with one digest, and the rows of the first node that is not started begin with another one
+abbrev pub IsKeptOther : Rows → List ℕ → ℕ → List ℕ → List ℕ → Type 0
+IsKeptOther rows input node theirs ours = (g : Genesis) × IsUnkept rows input g node (OtherGenesis theirs) × (ours ≡ digest_of g)
+
+-- a good genesis line and then events, each with its newline, no more lines than may be read, and each node is started
+pub record IsGoodScenario (rows : Rows) (input : List ℕ) : Type 0 where
   pub good : All IsNone (faults input)
   pub few : length (faults input) ≤ line_limit
+  pub started : IsStarted rows input
 
--- a line of this number is bad at this place, and all lines before it are good
-pub record IsFirstBad (input : List ℕ) (line field : ℕ) : Type 0 where
+-- a line of this number is bad at this place, all lines before it are good, and each node is started where one of them is the genesis
+pub record IsFirstBad (rows : Rows) (input : List ℕ) (line field : ℕ) : Type 0 where
   pub first : 1 ≤ line
   pub last : line ≤ line_limit
   pub bad : slice_get (faults input) (line - 1) ≡ Some (Some field)
   pub before : All IsNone (take (line - 1) (faults input))
+  pub started : IsStarted rows input
 
 -- a byte follows so many newlines
 pub record FollowsNewlines (newlines : ℕ) (input : List ℕ) : Type 0 where
@@ -61,10 +85,11 @@ pub record FollowsNewlines (newlines : ℕ) (input : List ℕ) : Type 0 where
   pub count : count_by (λ b. b == newline) front ≡ newlines
   pub more : 0 < length rest
 
--- a byte follows the newline of the last line that may be read, and all lines before it are good
-pub record IsTooLong (input : List ℕ) : Type 0 where
+-- a byte follows the newline of the last line that may be read, all lines before it are good, and each node is started
+pub record IsTooLong (rows : Rows) (input : List ℕ) : Type 0 where
   pub follows : FollowsNewlines line_limit input
   pub before : All IsNone (take line_limit (faults input))
+  pub started : IsStarted rows input
 
 -- the words are taken: no word is yet
 abbrev pub IsTaken : {A : Type 0} → List A → Type 0
@@ -83,6 +108,7 @@ pub record ComesExactly (left : Option (List ℕ)) (result status : Status) (IsO
   pub only : result ≡ status → Had left IsOfKind
   pub there : HadSurely left IsOfKind → (result ≡ status) ⊎ IsTrue (is_fault result)
 
--- the run is done and all that is told of the input is written, or there was no memory
-abbrev pub IsWhole : (List ℕ → Told) → Option (List ℕ) → Option (List ℕ) → Option (List ℕ) → Status → Type 0
-IsWhole whole left written_before written status = ((status ≡ Done) × Had left (λ input. Appends written_before written (whole input).bytes)) ⊎ (status ≡ NoMemory)
+-- the run is done, and all that is told of the input is written and kept; or there was no memory
+abbrev pub IsWhole : (List ℕ → Told) → Option (List ℕ) → Option (List ℕ) → Option (List ℕ) → Option Rows → Status → Type 0
+IsWhole whole left written_before written rows_now status =
+    ((status ≡ Done) × Had left (λ input. EndsAs written_before written rows_now (whole input) status)) ⊎ (status ≡ NoMemory)

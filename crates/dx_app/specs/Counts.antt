@@ -2,22 +2,45 @@
 use Rattle.std.specs.Prelude.{◌≡◌, ℕ, ◌≤◌}
 use Rattle.dx_types.specs.declared.status.Status.{Status}
 use Rattle.dx_types.specs.declared.status.Status.TheVariants.{Done, ReadFault, WriteFault, KeepFault}
+use Rattle.dx_cluster.specs.declared.fault.StartFault.{StartFault}
+use Rattle.dx_cluster.specs.declared.fault.StartFault.TheVariants as starts
 use Rattle.dx_io.specs.Causes.{Rose}
 
--- neither count falls
-pub record Later (read_count read_count_now write_count write_count_now : ℕ) : Type 0 where
-  pub reads : read_count ≤ read_count_now
-  pub writes : write_count ≤ write_count_now
+-- no count falls: of source, sink and keeper
+pub record Later (reads reads_now writes writes_now keeps keeps_now : ℕ) : Type 0 where
+  pub read_count : reads ≤ reads_now
+  pub write_count : writes ≤ writes_now
+  pub keep_count : keeps ≤ keeps_now
 
--- a run ends by a fault of the outside only where that object's count rose; the keeper is not called
-pub record Caused (reads reads_now writes writes_now : ℕ) (s : Status) : Type 0 where
+-- a run ends by a fault of the outside only where that object's count rose
+pub record Caused (reads reads_now writes writes_now keeps keeps_now : ℕ) (s : Status) : Type 0 where
+  pub read_fault : s ≡ ReadFault → Rose reads reads_now
+  pub write_fault : s ≡ WriteFault → Rose writes writes_now
+  pub keep_fault : s ≡ KeepFault → Rose keeps keeps_now
+
+-- the same where the keeper is not called
+pub record CausedByStreams (reads reads_now writes writes_now : ℕ) (s : Status) : Type 0 where
   pub read_fault : s ≡ ReadFault → Rose reads reads_now
   pub write_fault : s ≡ WriteFault → Rose writes writes_now
   pub keep_fault : s ≡ KeepFault → ⊥
 
--- the same where only the sink is called, behind which a run is not done
+-- the same where only sink and keeper are called, behind which a run is not done
+pub record CausedBehind (writes writes_now keeps keeps_now : ℕ) (s : Status) : Type 0 where
+  pub write_fault : s ≡ WriteFault → Rose writes writes_now
+  pub keep_fault : s ≡ KeepFault → Rose keeps keeps_now
+  pub read_fault : s ≡ ReadFault → ⊥
+  pub not_done : s ≡ Done → ⊥
+
+-- the same where only the sink is called
 pub record CausedByWrites (writes writes_now : ℕ) (s : Status) : Type 0 where
   pub write_fault : s ≡ WriteFault → Rose writes writes_now
   pub read_fault : s ≡ ReadFault → ⊥
   pub keep_fault : s ≡ KeepFault → ⊥
+  pub not_done : s ≡ Done → ⊥
+
+-- the same at a fault of starting nodes or of an event
+pub record CausedByFault (writes writes_now : ℕ) (fault : StartFault) (s : Status) : Type 0 where
+  pub write_fault : s ≡ WriteFault → Rose writes writes_now
+  pub read_fault : s ≡ ReadFault → ⊥
+  pub keep_fault : s ≡ KeepFault → fault ≡ starts.KeepFault
   pub not_done : s ≡ Done → ⊥

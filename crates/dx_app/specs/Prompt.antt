@@ -3,7 +3,8 @@ use Rattle.std.specs.Prelude.{◌≡◌, ℕ, ◌≤◌, List, [], ◌∷◌, �
 use Rattle.std.specs.Io.KnownBytes.{Appends, Consumes}
 use Rattle.dx_types.specs.declared.status.Status.TheVariants.{Done}
 use Rattle.dx_app.specs.Lines.{longest_line, has_newline}
-use Rattle.dx_app.specs.Transcript.{Told, ended, scenario}
+use Rattle.dx_io.specs.Rows.{Rows}
+use Rattle.dx_app.specs.Transcript.{Told, lines_alone}
 
 -- the bytes of a source or a sink, where it tells them
 abbrev pub Known : Type 0
@@ -64,17 +65,12 @@ AnswersAllBehind whole at_hand left_before left written_before written =
     (others more : List ℕ) × IsNear others
     × HasAnswered whole at_hand left_before left written_before written others more
 
--- what is told of whole lines alone, which need not be any
-abbrev pub lines_alone : List ℕ → Told
-lines_alone [] = ended Done
-lines_alone (b ∷ bytes) = scenario (b ∷ bytes)
-
 -- just the replies to all lines are written that are whole in what was taken from the source
-abbrev pub RepliesAreOut : Known → Known → Known → Known → Type 0
-RepliesAreOut left_before left written_before written =
-    AnswersWholeLines lines_alone [] left_before left written_before written
+abbrev pub RepliesAreOut : Rows → Known → Known → Known → Known → Type 0
+RepliesAreOut rows left_before left written_before written =
+    AnswersWholeLines (lines_alone rows) [] left_before left written_before written
 
 -- the source was read no further than the front of a line whose reply need not be written yet, and at most one buffer
-abbrev pub ReadsNoFurther : Known → Known → Known → Known → Type 0
-ReadsNoFurther left_before left written_before written =
-    AnswersAllBehind lines_alone [] left_before left written_before written
+abbrev pub ReadsNoFurther : Rows → Known → Known → Known → Known → Type 0
+ReadsNoFurther rows left_before left written_before written =
+    AnswersAllBehind (lines_alone rows) [] left_before left written_before written

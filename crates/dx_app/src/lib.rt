@@ -1,26 +1,25 @@
 //! The program's top call: lines of a scenario in, lines of replies out.
 //!
 //! `run` does all that `perpnode` does, over any source, sink and keeper. What it promises stands in
-//! its contract: what is written and the status are those of `transcript` of its words and its input,
-//! a definition over bytes; each status comes exactly by its cause, and a good scenario is answered
-//! whole unless a count rises or memory is wanting; a fault of the outside leaves a front of it and
-//! comes only where that object's count rose; each line is answered before the next one is read; and every
-//! committed reply is what the plain fold of the node's committed blocks says.
+//! its contract: what is written and kept and the status are those of `transcript` of its words, its input and
+//! the rows that the keeper had, a definition over bytes and rows; each status comes exactly by its cause, and a
+//! good scenario is answered whole unless a count rises or memory is wanting; a fault of the outside leaves a
+//! front of it and comes only where that object's count rose; each line is answered before the next one is
+//! read; whatever ends a run, the rows are just those that its executed lines put, and no reply is written to
+//! what is not kept; and every committed reply is what the plain fold of the node's committed blocks says.
 //!
 //! It stands on `dx_io` (source, sink and keeper), `dx_scenario` (what a line says), `dx_print` (what is
-//! written) and `dx_cluster` (what an event does to nodes and slots). From below to above: `lines` cuts the
-//! input into lines, `reading` reads them as events that are built, `output` writes, `replay` goes over the
-//! lines, and `program` has the two calls.
+//! written) and `dx_cluster` (what an event does to nodes, slots and rows). From below to above: `lines` cuts
+//! the input into lines, `output` writes, `replay` goes over the lines, and `program` has the two calls.
 //!
-//! In `specs/`, `Transcript` says what is written for words and input, `Causes` when each status comes,
-//! `Prompt` how far a run reads and what it has answered by then, and `Runs` how far a run has come.
+//! In `specs/`, `Transcript` says what is written and kept for words, input and rows, `Causes` when each status
+//! comes, `Prompt` how far a run reads and what it has answered by then, and `Runs` how far a run has come.
 #![tactic(auto)]
 
 mod laws;
 mod lines;
 mod output;
 mod program;
-mod reading;
 mod replay;
 
 pub use laws::events_are_served;

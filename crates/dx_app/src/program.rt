@@ -1,20 +1,21 @@
-ghost use Rattle.std.specs.Prelude.{◌≡◌, ◌≤◌, ◌⊎◌, ℕ, List, [], ◌++◌, MatchResult, IfOk, IfErr, length};
+ghost use Rattle.std.specs.Prelude.{◌≡◌, ◌≤◌, ◌⊎◌, ℕ, List, [], ◌++◌, MatchResult, IfOk, IfErr, Some, length};
 ghost use Rattle.std.specs.Io.KnownBytes.{Appends, IsAtEnd};
 ghost use Rattle.dx_io.specs.Causes.{Rose};
+ghost use Rattle.dx_io.specs.Rows.{Rows};
 ghost use Rattle.dx_types.specs.declared.status.Status.TheVariants as ends;
 ghost use Rattle.dx_spec.specs.Genesis.{IsNatFrom, IsGenesis};
 ghost use Rattle.dx_print.specs.Replies.{reply_line};
 ghost use Rattle.dx_app.specs.Output.{AppendsFront};
 ghost use Rattle.dx_cluster.specs.World.{World, Stands};
 ghost use Rattle.dx_app.specs.Transcript.{ended, genesis_reply, scenario, transcript};
-ghost use Rattle.dx_app.specs.Runs.{Says, IsRunOf, GoesOn, OpensTo};
-ghost use Rattle.dx_app.specs.Counts.{Later, Caused, CausedByWrites};
+ghost use Rattle.dx_app.specs.Runs.{Says, AppendsLast, IsRunOf, KeepsLines, OpensTo};
+ghost use Rattle.dx_app.specs.Counts.{Caused, CausedByStreams, CausedByWrites};
 ghost use Rattle.dx_app.specs.Prompt.{IsNear, ReadsTo, StopsInLine, RepliesAreOut, ReadsNoFurther};
-ghost use Rattle.dx_app.specs.Causes.{IsTaken, IsGoodScenario, IsFirstBad, IsTooLong, HadSurely, ComesExactly, IsWhole};
+ghost use Rattle.dx_app.specs.Causes.{IsTaken, IsGoodScenario, IsFirstBad, IsTooLong, IsKeptBad, IsKeptOther, HadSurely, ComesExactly, IsWhole};
 
 use crate::lines::{Cut, LineReader};
 use crate::output::write_text;
-use crate::replay::{end_at_line, end_badly, end_reading, replay_lines, write_last};
+use crate::replay::{end_at_line, end_badly, end_reading, end_unserved, replay_lines, write_last};
 use dx_cluster::Cluster;
 use dx_io::{Keeper, Sink, Source};
 use dx_print::{Reply, Word, reply};
@@ -34,13 +35,15 @@ fn open<S: Source, W: Sink>(
     ensures silent { IfOk result (λ _. W.written sink.new ≡ W.written sink.old) }
     ensures nodes { IfOk result (λ first. IsNatFrom 1 16 first.0) }
     ensures good { IfOk result (λ first. IsGenesis first.1) }
-    ensures ended { IfErr result (λ s. IsRunOf scenario (S.left source.old)
-        (W.written sink.old) (W.written sink.new) s) }
+    ensures ended { IfErr result (λ s. (rows : Rows) → IsRunOf (scenario rows) (S.left source.old)
+        (W.written sink.old) (W.written sink.new) (Some rows) s) }
+    ensures last { AppendsLast (W.written sink.old) (W.written sink.new) }
     ensures near { ReadsTo reader.old (S.left source.old) (S.left source.new) IsNear }
     ensures stops { IfErr result (λ s. s ≡ ends.ReadFault
         → StopsInLine reader.old (S.left source.old) (S.left source.new) (W.written sink.old) (W.written sink.new)) }
-    ensures later { Later (S.faults source.old) (S.faults source.new) (W.faults sink.old) (W.faults sink.new) }
-    ensures caused { IfErr result (Caused (S.faults source.old) (S.faults source.new)
+    ensures read_count { S.faults source.old ≤ S.faults source.new }
+    ensures write_count { W.faults sink.old ≤ W.faults sink.new }
+    ensures caused { IfErr result (CausedByStreams (S.faults source.old) (S.faults source.new)
         (W.faults sink.old) (W.faults sink.new)) }
     ensures not_done { IfErr result (λ s. s ≡ ends.Done → ⊥) }
 {
@@ -83,89 +86,116 @@ fn greet<W: Sink>(alloc: Global, sink: &mut W, cluster: &Cluster) -> Result<(), 
 }
 
 /// Answers all lines of a source, as the scenario that they are.
-fn answer_all<S: Source, W: Sink>(alloc: Global, source: &mut S, sink: &mut W) -> Status
-    ensures said { IsRunOf scenario (S.left source.old) (W.written sink.old) (W.written sink.new) result }
+fn answer_all<S: Source, W: Sink, K: Keeper>(
+    alloc: Global,
+    source: &mut S,
+    sink: &mut W,
+    keeper: &mut K,
+) -> Status
+    ensures said { (rows : Rows) → K.rows keeper.old ≡ Some rows → IsRunOf (scenario rows) (S.left source.old)
+        (W.written sink.old) (W.written sink.new) (K.rows keeper.new) result }
+    ensures kept { (rows : Rows) → K.rows keeper.old ≡ Some rows → KeepsLines rows (S.left source.old)
+        (W.written sink.old) (W.written sink.new) (K.rows keeper.new) }
     ensures done { result ≡ ends.Done → IsAtEnd (S.left source.new) }
-    ensures prompt { result ≡ ends.ReadFault
-        → RepliesAreOut (S.left source.old) (S.left source.new) (W.written sink.old) (W.written sink.new) }
-    ensures no_further { ReadsNoFurther (S.left source.old) (S.left source.new)
-        (W.written sink.old) (W.written sink.new) }
-    ensures caused { Caused (S.faults source.old) (S.faults source.new) (W.faults sink.old) (W.faults sink.new) result }
+    ensures prompt { result ≡ ends.ReadFault → (rows : Rows) → K.rows keeper.old ≡ Some rows
+        → RepliesAreOut rows (S.left source.old) (S.left source.new) (W.written sink.old) (W.written sink.new) }
+    ensures no_further { (rows : Rows) → K.rows keeper.old ≡ Some rows
+        → ReadsNoFurther rows (S.left source.old) (S.left source.new) (W.written sink.old) (W.written sink.new) }
+    ensures caused { Caused (S.faults source.old) (S.faults source.new) (W.faults sink.old) (W.faults sink.new)
+        (K.faults keeper.old) (K.faults keeper.new) result }
 {
     let mut reader = LineReader::new();
     let (count, genesis) = match open(alloc, &mut reader, source, sink) {
         Ok(first) => first,
         Err(status) => return status,
     };
-    let Ok(mut cluster) = Cluster::new(alloc, count, &genesis) else {
-        return Status::NoMemory;
+    let mut cluster = match Cluster::open(alloc, count, &genesis, keeper) {
+        Ok(cluster) => cluster,
+        Err(fault) => return end_unserved(alloc, sink, fault),
     };
     match greet(alloc, sink, &cluster) {
         Ok(()) => {}
         Err(status) => return status,
     }
-    replay_lines(alloc, &mut cluster, &mut reader, source, sink)
+    replay_lines(alloc, &mut cluster, &mut reader, source, sink, keeper)
 }
 
 /// Answers each line of a source, the genesis line first and then the events, and says by which status the run ends
-/// ("Statuses" in docs/FORMAT.md). The keeper is not called yet.
+/// ("Statuses" in docs/FORMAT.md). The nodes start from the rows that the keeper has of them, and each block that a
+/// node commits is a row before the reply to it is written.
 ///
 /// | status | when |
 /// |---|---|
 /// | `Done` | all lines, at most 1,000,000, were good and are answered, and the source is at its end |
 /// | `BadLine` | a line was bad, or there was none: the first bad line, from 1, and its wrong element, from 0 |
+/// | `KeptBad` | the rows of a node were no chain: the first such node, and the height of its first bad row |
+/// | `KeptOther` | the rows of a node were those of another genesis: the first such node, and both digests |
 /// | `Long` | a byte followed the 1,000,000th newline, and all lines before it were good |
 /// | `ReadFault` | a read failed; only where the source's count of faults rose |
 /// | `WriteFault` | a write failed; only where the sink's count of faults rose |
+/// | `KeepFault` | a call of the keeper failed; only where the keeper's count of faults rose |
 /// | `NoMemory` | there was no memory |
 ///
-/// Where the source tells its bytes, and the table gives them `Done`, `BadLine` or `Long`, the status is just that, or
-/// one of the last three. `Usage`, `KeptBad`, `KeptOther` and `KeepFault` never come.
+/// Where source and keeper tell what they hold, and the table gives it one of the first five, the status is just that,
+/// or one of the last four. `Usage` never comes where the keeper tells its rows.
 pub fn replay_all<S: Source, W: Sink, K: Keeper>(
     alloc: Global,
     source: &mut S,
     sink: &mut W,
     keeper: &mut K,
 ) -> Status
-    // What is written and the status are those of the scenario that the source had left; at a fault of
-    // the outside or for want of memory, a front of it is written.
-    ensures said { IsRunOf scenario (S.left source.old) (W.written sink.old) (W.written sink.new) result }
+    // What is written and kept, and the status, are those of the scenario that the source had left, over the rows that
+    // the keeper had; at a fault of the outside or for want of memory, a front of it is written.
+    ensures said { (rows : Rows) → K.rows keeper.old ≡ Some rows → IsRunOf (scenario rows) (S.left source.old)
+        (W.written sink.old) (W.written sink.new) (K.rows keeper.new) result }
     ensures done { result ≡ ends.Done → IsAtEnd (S.left source.new) }
+
+    // Whatever ends the run, just what the executed lines put is kept, and no reply is written to what is not kept.
+    ensures kept { (rows : Rows) → K.rows keeper.old ≡ Some rows → KeepsLines rows (S.left source.old)
+        (W.written sink.old) (W.written sink.new) (K.rows keeper.new) }
 
     // Each line is answered before the next one is read: where a read fails, just the replies to all lines that are whole
     // in what was taken from the source are written; and whatever ends the run, the source is read no further than
     // one line whose reply need not be written yet, and at most one buffer.
-    ensures prompt { result ≡ ends.ReadFault
-        → RepliesAreOut (S.left source.old) (S.left source.new) (W.written sink.old) (W.written sink.new) }
-    ensures no_further { ReadsNoFurther (S.left source.old) (S.left source.new)
-        (W.written sink.old) (W.written sink.new) }
+    ensures prompt { result ≡ ends.ReadFault → (rows : Rows) → K.rows keeper.old ≡ Some rows
+        → RepliesAreOut rows (S.left source.old) (S.left source.new) (W.written sink.old) (W.written sink.new) }
+    ensures no_further { (rows : Rows) → K.rows keeper.old ≡ Some rows
+        → ReadsNoFurther rows (S.left source.old) (S.left source.new) (W.written sink.old) (W.written sink.new) }
 
-    // Each status comes exactly by its cause. Of several faults of lines the first ends the run.
-    ensures good { ComesExactly (S.left source.old) result ends.Done IsGoodScenario }
-    ensures bad_line { (line field : ℕ)
-        → ComesExactly (S.left source.old) result (ends.BadLine line field) (λ input. IsFirstBad input line field) }
-    ensures long { ComesExactly (S.left source.old) result ends.Long IsTooLong }
-    ensures usage { result ≡ ends.Usage → ⊥ }
-    ensures kept_bad { (node height : ℕ) → result ≡ ends.KeptBad node height → ⊥ }
-    ensures kept_other { (node : ℕ) (kept ours : List ℕ) → result ≡ ends.KeptOther node kept ours → ⊥ }
+    // Each status comes exactly by its cause. Of several faults of rows and lines the first ends the run.
+    ensures good { (rows : Rows) → K.rows keeper.old ≡ Some rows
+        → ComesExactly (S.left source.old) result ends.Done (IsGoodScenario rows) }
+    ensures bad_line { (rows : Rows) → K.rows keeper.old ≡ Some rows → (line field : ℕ)
+        → ComesExactly (S.left source.old) result (ends.BadLine line field) (λ input. IsFirstBad rows input line field) }
+    ensures long { (rows : Rows) → K.rows keeper.old ≡ Some rows
+        → ComesExactly (S.left source.old) result ends.Long (IsTooLong rows) }
+    ensures kept_bad { (rows : Rows) → K.rows keeper.old ≡ Some rows → (node height : ℕ)
+        → ComesExactly (S.left source.old) result (ends.KeptBad node height) (λ input. IsKeptBad rows input node height) }
+    ensures kept_other { (rows : Rows) → K.rows keeper.old ≡ Some rows → (node : ℕ) (theirs ours : List ℕ)
+        → ComesExactly (S.left source.old) result (ends.KeptOther node theirs ours)
+        (λ input. IsKeptOther rows input node theirs ours) }
+    ensures usage { (rows : Rows) → K.rows keeper.old ≡ Some rows → result ≡ ends.Usage → ⊥ }
 
     // A fault of the outside is an answer only where the count of that object's faults rose.
     ensures read_fault { result ≡ ends.ReadFault → Rose (S.faults source.old) (S.faults source.new) }
     ensures write_fault { result ≡ ends.WriteFault → Rose (W.faults sink.old) (W.faults sink.new) }
-    ensures keep_fault { result ≡ ends.KeepFault → ⊥ }
-    ensures keeper { keeper.new ≡ keeper.old }
+    ensures keep_fault { result ≡ ends.KeepFault → Rose (K.faults keeper.old) (K.faults keeper.new) }
 
     // A good scenario is answered whole where no count rises, unless memory is wanting.
-    ensures complete { HadSurely (S.left source.old) IsGoodScenario
+    ensures complete { (rows : Rows) → K.rows keeper.old ≡ Some rows
+        → HadSurely (S.left source.old) (IsGoodScenario rows)
         → ¬ Rose (S.faults source.old) (S.faults source.new) → ¬ Rose (W.faults sink.old) (W.faults sink.new)
-        → IsWhole scenario (S.left source.old) (W.written sink.old) (W.written sink.new) result }
+        → ¬ Rose (K.faults keeper.old) (K.faults keeper.new)
+        → IsWhole (scenario rows) (S.left source.old) (W.written sink.old) (W.written sink.new)
+        (K.rows keeper.new) result }
 {
-    answer_all(alloc, source, sink)
+    answer_all(alloc, source, sink, keeper)
 }
 
 /// Refuses the words, and ends the run.
 fn refuse_words<W: Sink>(alloc: Global, sink: &mut W) -> Status
-    ensures said { Says (W.written sink.old) (W.written sink.new) (ended ends.Usage) result }
+    ensures said { (rows : Rows)
+        → Says (W.written sink.old) (W.written sink.new) (Some rows) (ended ends.Usage rows) result }
     ensures caused { CausedByWrites (W.faults sink.old) (W.faults sink.new) result }
 {
     let status = Status::Usage;
@@ -176,23 +206,35 @@ fn refuse_words<W: Sink>(alloc: Global, sink: &mut W) -> Status
 }
 
 /// Does what the words ask for. Any word is refused yet.
-fn obey<S: Source, W: Sink>(alloc: Global, words: &[String], source: &mut S, sink: &mut W) -> Status
-    ensures said { IsRunOf (transcript words.now) (S.left source.old) (W.written sink.old) (W.written sink.new) result }
+fn obey<S: Source, W: Sink, K: Keeper>(
+    alloc: Global,
+    words: &[String],
+    source: &mut S,
+    sink: &mut W,
+    keeper: &mut K,
+) -> Status
+    ensures said { (rows : Rows) → K.rows keeper.old ≡ Some rows
+        → IsRunOf (transcript words.now rows) (S.left source.old)
+        (W.written sink.old) (W.written sink.new) (K.rows keeper.new) result }
+    ensures kept { IsTaken words.now → (rows : Rows) → K.rows keeper.old ≡ Some rows
+        → KeepsLines rows (S.left source.old) (W.written sink.old) (W.written sink.new) (K.rows keeper.new) }
+    ensures spared { ¬ IsTaken words.now → keeper.new ≡ keeper.old }
     ensures done { result ≡ ends.Done → IsAtEnd (S.left source.new) }
-    ensures prompt { result ≡ ends.ReadFault
-        → RepliesAreOut (S.left source.old) (S.left source.new) (W.written sink.old) (W.written sink.new) }
-    ensures no_further { ReadsNoFurther (S.left source.old) (S.left source.new)
-        (W.written sink.old) (W.written sink.new) }
-    ensures caused { Caused (S.faults source.old) (S.faults source.new) (W.faults sink.old) (W.faults sink.new) result }
+    ensures prompt { result ≡ ends.ReadFault → (rows : Rows) → K.rows keeper.old ≡ Some rows
+        → RepliesAreOut rows (S.left source.old) (S.left source.new) (W.written sink.old) (W.written sink.new) }
+    ensures no_further { (rows : Rows) → K.rows keeper.old ≡ Some rows
+        → ReadsNoFurther rows (S.left source.old) (S.left source.new) (W.written sink.old) (W.written sink.new) }
+    ensures caused { Caused (S.faults source.old) (S.faults source.new) (W.faults sink.old) (W.faults sink.new)
+        (K.faults keeper.old) (K.faults keeper.new) result }
 {
     if !words.is_empty() {
         return refuse_words(alloc, sink);
     }
-    answer_all(alloc, source, sink)
+    answer_all(alloc, source, sink, keeper)
 }
 
 /// Does all that the program does: `words` are the program's words without its name. Any word is
-/// refused yet, and the keeper is not called yet.
+/// refused yet; without one the lines of the source are answered, as by [`replay_all`].
 pub fn run<S: Source, W: Sink, K: Keeper>(
     alloc: Global,
     words: &[String],
@@ -200,40 +242,56 @@ pub fn run<S: Source, W: Sink, K: Keeper>(
     sink: &mut W,
     keeper: &mut K,
 ) -> Status
-    // What is written and the status are those of the words and of what the source had left; at a fault
-    // of the outside or for want of memory, a front of it is written.
-    ensures said { IsRunOf (transcript words.now) (S.left source.old) (W.written sink.old) (W.written sink.new) result }
+    // What is written and kept, and the status, are those of the words, of what the source had left and of the rows that
+    // the keeper had; at a fault of the outside or for want of memory, a front of it is written.
+    ensures said { (rows : Rows) → K.rows keeper.old ≡ Some rows
+        → IsRunOf (transcript words.now rows) (S.left source.old)
+        (W.written sink.old) (W.written sink.new) (K.rows keeper.new) result }
     ensures done { result ≡ ends.Done → IsAtEnd (S.left source.new) }
+
+    // Whatever ends the run, just what the executed lines put is kept, and no reply is written to what is not kept. For
+    // words that are not taken the keeper is not called.
+    ensures kept { IsTaken words.now → (rows : Rows) → K.rows keeper.old ≡ Some rows
+        → KeepsLines rows (S.left source.old) (W.written sink.old) (W.written sink.new) (K.rows keeper.new) }
+    ensures spared { ¬ IsTaken words.now → keeper.new ≡ keeper.old }
 
     // Each line is answered before the next one is read: where a read fails, just the replies to all lines that are whole
     // in what was taken from the source are written; and whatever ends the run, the source is read no further than
     // one line whose reply need not be written yet, and at most one buffer.
-    ensures prompt { result ≡ ends.ReadFault
-        → RepliesAreOut (S.left source.old) (S.left source.new) (W.written sink.old) (W.written sink.new) }
-    ensures no_further { ReadsNoFurther (S.left source.old) (S.left source.new)
-        (W.written sink.old) (W.written sink.new) }
+    ensures prompt { result ≡ ends.ReadFault → (rows : Rows) → K.rows keeper.old ≡ Some rows
+        → RepliesAreOut rows (S.left source.old) (S.left source.new) (W.written sink.old) (W.written sink.new) }
+    ensures no_further { (rows : Rows) → K.rows keeper.old ≡ Some rows
+        → ReadsNoFurther rows (S.left source.old) (S.left source.new) (W.written sink.old) (W.written sink.new) }
 
-    // Each status comes exactly by its cause. Of several faults of lines the first ends the run.
-    ensures good { ComesExactly (S.left source.old) result ends.Done
-        (λ input. IsTaken words.now × IsGoodScenario input) }
-    ensures bad_line { (line field : ℕ)
+    // Each status comes exactly by its cause. Of several faults of rows and lines the first ends the run.
+    ensures good { (rows : Rows) → K.rows keeper.old ≡ Some rows
+        → ComesExactly (S.left source.old) result ends.Done (λ input. IsTaken words.now × IsGoodScenario rows input) }
+    ensures bad_line { (rows : Rows) → K.rows keeper.old ≡ Some rows → (line field : ℕ)
         → ComesExactly (S.left source.old) result (ends.BadLine line field)
-        (λ input. IsTaken words.now × IsFirstBad input line field) }
-    ensures long { ComesExactly (S.left source.old) result ends.Long (λ input. IsTaken words.now × IsTooLong input) }
-    ensures usage { ComesExactly (S.left source.old) result ends.Usage (λ input. ¬ IsTaken words.now) }
-    ensures kept_bad { (node height : ℕ) → result ≡ ends.KeptBad node height → ⊥ }
-    ensures kept_other { (node : ℕ) (kept ours : List ℕ) → result ≡ ends.KeptOther node kept ours → ⊥ }
+        (λ input. IsTaken words.now × IsFirstBad rows input line field) }
+    ensures long { (rows : Rows) → K.rows keeper.old ≡ Some rows
+        → ComesExactly (S.left source.old) result ends.Long (λ input. IsTaken words.now × IsTooLong rows input) }
+    ensures kept_bad { (rows : Rows) → K.rows keeper.old ≡ Some rows → (node height : ℕ)
+        → ComesExactly (S.left source.old) result (ends.KeptBad node height)
+        (λ input. IsTaken words.now × IsKeptBad rows input node height) }
+    ensures kept_other { (rows : Rows) → K.rows keeper.old ≡ Some rows → (node : ℕ) (theirs ours : List ℕ)
+        → ComesExactly (S.left source.old) result (ends.KeptOther node theirs ours)
+        (λ input. IsTaken words.now × IsKeptOther rows input node theirs ours) }
+    ensures usage { (rows : Rows) → K.rows keeper.old ≡ Some rows
+        → ComesExactly (S.left source.old) result ends.Usage (λ input. ¬ IsTaken words.now) }
 
     // A fault of the outside is an answer only where the count of that object's faults rose.
     ensures read_fault { result ≡ ends.ReadFault → Rose (S.faults source.old) (S.faults source.new) }
     ensures write_fault { result ≡ ends.WriteFault → Rose (W.faults sink.old) (W.faults sink.new) }
-    ensures keep_fault { result ≡ ends.KeepFault → ⊥ }
-    ensures keeper { keeper.new ≡ keeper.old }
+    ensures keep_fault { result ≡ ends.KeepFault → Rose (K.faults keeper.old) (K.faults keeper.new) }
 
     // A good scenario is answered whole where no count rises, unless memory is wanting.
-    ensures complete { IsTaken words.now → HadSurely (S.left source.old) IsGoodScenario
+    ensures complete { IsTaken words.now → (rows : Rows) → K.rows keeper.old ≡ Some rows
+        → HadSurely (S.left source.old) (IsGoodScenario rows)
         → ¬ Rose (S.faults source.old) (S.faults source.new) → ¬ Rose (W.faults sink.old) (W.faults sink.new)
-        → IsWhole (transcript words.now) (S.left source.old) (W.written sink.old) (W.written sink.new) result }
+        → ¬ Rose (K.faults keeper.old) (K.faults keeper.new)
+        → IsWhole (transcript words.now rows) (S.left source.old) (W.written sink.old) (W.written sink.new)
+        (K.rows keeper.new) result }
 {
-    obey(alloc, words, source, sink)
+    obey(alloc, words, source, sink, keeper)
 }

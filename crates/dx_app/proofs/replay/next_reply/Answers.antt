@@ -1,31 +1,47 @@
 use Rattle.std.proofs.lemmas.Result.{on_ok_weaker, MatchResult-weaker}
 use Rattle.dx_app.proofs.Runs.{run_at_fault, reading_fails, line_goes_on, line_ends, broken_ends, end_ends}
-use Rattle.std.proofs.Common.{ap, Err}
+use Rattle.dx_app.proofs.Kept.{says_last, silent_last, stops_here, line_stops}
+use Rattle.dx_types.specs.declared.status.Status.TheVariants as ends
+use Rattle.std.proofs.Common.{Some, ap, Err}
 use Rattle.dx_app.proofs.Prompt.{read_failed, stops}
 use Rattle.dx_app.proofs.replay.next_reply.Goals as goal
 
 pub returns-in-Err-clause-ended : goal.returns-in-Err-clause-ended
-returns-in-Err-clause-ended g c = λ w st. run_at_fault _ _ _ c.end_reading.result (reading_fails c.in-Err.error c.end_reading.result c.end_reading.ensures)
+returns-in-Err-clause-ended g c = λ w st. run_at_fault _ _ _ _ c.end_reading.result (reading_fails c.in-Err.error c.end_reading.result c.end_reading.ensures)
+
+pub returns-in-Err-clause-kept : goal.returns-in-Err-clause-kept
+returns-in-Err-clause-kept g c = λ w st. stops_here w c.args.number _ _ _ _ _ st.1.told (silent_last _)
 
 pub returns-in-Line-clause-goes_on : goal.returns-in-Line-clause-goes_on
 returns-in-Line-clause-goes_on g c =
     let cuts = rw (c.in-Line.is, ← c.as_slice.ensures.value) at c.in-Ok.ensures.cut in
-    on_ok_weaker c.answer_line.result (λ f w st. line_goes_on _ _ _ _ _ _ _ _ w c.args.number cuts c.requires.number (f w st)) c.answer_line.ensures.answered
+    on_ok_weaker c.answer_line.result (λ f w st. line_goes_on _ _ _ _ _ _ _ _ _ w c.args.number cuts c.requires.number (f w st)) c.answer_line.ensures.answered
 
 pub returns-in-Line-clause-ended : goal.returns-in-Line-clause-ended
 returns-in-Line-clause-ended g c =
     let cuts = rw (c.in-Line.is, ← c.as_slice.ensures.value) at c.in-Ok.ensures.cut in
-    MatchResult-weaker c.answer_line.result c.answer_line.ensures.ended (λ _ _. tt) (λ s f w st. line_ends _ _ _ _ _ _ _ w c.args.number s cuts c.requires.number (f w st))
+    MatchResult-weaker c.answer_line.result c.answer_line.ensures.ended (λ _ _. tt) (λ s f w st. line_ends _ _ _ _ _ _ _ _ w c.args.number s cuts c.requires.number (f w st))
+
+pub returns-in-Line-clause-kept : goal.returns-in-Line-clause-kept
+returns-in-Line-clause-kept g c =
+    let cuts = rw (c.in-Line.is, ← c.as_slice.ensures.value) at c.in-Ok.ensures.cut in
+    MatchResult-weaker c.answer_line.result c.answer_line.ensures.kept (λ _ _. tt) (λ s f w st. line_stops _ _ _ _ _ _ _ _ w c.args.number cuts c.requires.number (f w st))
 
 pub returns-in-Broken-clause-ended : goal.returns-in-Broken-clause-ended
 returns-in-Broken-clause-ended g c = λ w st.
     let cuts = rw c.in-Broken.is at c.in-Ok.ensures.cut in
-    broken_ends _ _ _ _ _ _ _ w c.args.number c.end_badly.result cuts c.requires.number c.end_badly.ensures.said
+    broken_ends _ _ _ _ _ _ _ _ w c.args.number c.end_badly.result cuts c.requires.number st.1.told c.end_badly.ensures.said
+
+pub returns-in-Broken-clause-kept : goal.returns-in-Broken-clause-kept
+returns-in-Broken-clause-kept g c = λ w st. stops_here w c.args.number _ _ _ _ _ st.1.told (says_last _ _ (Some w.rows) (ends.BadLine c.args.number 0) w.rows c.end_badly.result (c.end_badly.ensures.said w.rows))
 
 pub returns-in-End-clause-ended : goal.returns-in-End-clause-ended
 returns-in-End-clause-ended g c = λ w st.
     let cuts = rw c.in-End.is at c.in-Ok.ensures.cut in
-    end_ends _ _ _ _ _ _ w c.args.number cuts
+    end_ends _ _ _ _ _ _ _ w c.args.number cuts st.1.told
+
+pub returns-in-End-clause-kept : goal.returns-in-End-clause-kept
+returns-in-End-clause-kept g c = λ w st. stops_here w c.args.number _ _ _ _ _ st.1.told (silent_last _)
 
 pub returns-in-Err-clause-stops : goal.returns-in-Err-clause-stops
 returns-in-Err-clause-stops g c = λ e. stops _ _ _ _ (c.in-Err.ensures.in_line (ap Err (read_failed c.in-Err.error c.end_reading.result c.end_reading.ensures e)))

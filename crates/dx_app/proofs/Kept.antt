@@ -1,0 +1,171 @@
+-- What is kept where a run ends: just what its executed lines put.
+use Rattle.std.proofs.Common.{◌≡◌, ◌≤◌, ◌⊎◌, inl, inr, ℕ, suc, List, [], ◌∷◌, ◌++◌, length, refl, sym, ap, subst, ◌∙◌, append_assoc, append-nil, true, false, MatchBool, Option, Some, Result, Ok, Err}
+use Rattle.std.specs.Io.KnownBytes.{Appends, Keeps}
+use Rattle.dx_types.specs.declared.status.Status.{Status}
+use Rattle.dx_types.specs.declared.status.Status.TheVariants as ends
+use Rattle.dx_io.specs.Rows.{Rows}
+use Rattle.dx_scenario.specs.declared.event.Event.{Event}
+use Rattle.dx_scenario.specs.declared.fault.LineFault.{LineFault}
+use Rattle.dx_scenario.specs.declared.fault.LineFault.TheVariants as faults
+use Rattle.dx_scenario.specs.Events.{event_of}
+use Rattle.dx_print.specs.declared.replies.Reply.{Reply}
+use Rattle.dx_print.specs.Replies.{reply_line}
+use Rattle.dx_print.specs.Statuses.{last_line}
+use Rattle.dx_cluster.specs.declared.cluster.Cluster.{Cluster}
+use Rattle.dx_cluster.specs.declared.fault.StartFault.{StartFault}
+use Rattle.dx_cluster.specs.declared.fault.StartFault.TheVariants as starts
+use Rattle.dx_cluster.specs.World.{World, step, IsDone, KeepsRows, Breaks}
+use Rattle.dx_app.specs.declared.lines.Cut.TheVariants.{Line}
+use Rattle.dx_app.specs.Lines.{newline, rest_of, CutsLine}
+use Rattle.dx_app.specs.Output.{AppendsFront}
+use Rattle.dx_app.specs.Transcript.{Told, line_limit, told_after, ended, lines_told, rest_told, scenario, lines_alone}
+use Rattle.dx_app.specs.Runs.{is_fault, EndsAs, Says, AppendsLast, ExecutesLines, Executes, Holds, GoesOn, line_alone, ExecutesLine, StopsAtLine, EndsAtLine, EndsUnserved}
+use Rattle.dx_app.proofs.Outputs.{appends_then, keeps_front, nothing_front, front_more, rest_is_input, read_is_input}
+use Rattle.dx_app.proofs.Runs.{lines_at_hand, line_at_hand, line_then, rest_line, nothing_told, line_is}
+
+-- a front of what is told is written, whatever the status
+pub says_front : (before now : Option (List ℕ)) (k : Option Rows) (t : Told) (s : Status) → Says before now k t s → AppendsFront before now t.bytes
+says_front before now k t s said =
+    elim (is_fault s) as (λ b. MatchBool b (AppendsFront before now t.bytes) (EndsAs before now k t s) → AppendsFront before now t.bytes) [
+      | true ↦ λ front. front
+      | false ↦ λ all. (t.bytes, all.0, ([], append-nil t.bytes))
+    ] said
+
+-- a last line is written, or a front of it
+pub says_last : (before now : Option (List ℕ)) (k : Option Rows) (last : Status) (rows : Rows) (s : Status) → Says before now k (ended last rows) s → AppendsLast before now
+says_last before now k last rows s said = (last, says_front before now k (ended last rows) s said)
+
+-- nothing is written
+pub keeps_last : (before now : Option (List ℕ)) → Keeps before now → AppendsLast before now
+keeps_last before now k = (ends.Done, keeps_front before now [] k)
+
+pub silent_last : (written : Option (List ℕ)) → AppendsLast written written
+silent_last written = (ends.Done, nothing_front written [])
+
+pub fault_last : (before now : Option (List ℕ)) (rows : Rows) (n : ℕ) (fault : LineFault) (s : Status) → EndsAtLine before now n fault s → AppendsLast before now
+fault_last before now rows n (faults.Bad field) s e = says_last before now (Some rows) (ends.BadLine n field) rows s (e rows)
+fault_last before now rows n faults.NoMemory s e = keeps_last before now e.1
+
+pub unserved_last : (before now : Option (List ℕ)) (rows : Rows) (fault : StartFault) (s : Status) → EndsUnserved before now fault s → AppendsLast before now
+unserved_last before now rows (starts.KeptBad node height) s e = says_last before now (Some rows) (ends.KeptBad node height) rows s (e rows)
+unserved_last before now rows (starts.KeptOther node theirs ours) s e = says_last before now (Some rows) (ends.KeptOther node theirs ours) rows s (e rows)
+unserved_last before now rows starts.KeepFault s e = keeps_last before now e.1
+unserved_last before now rows starts.NoMemory s e = keeps_last before now e.1
+
+front_after : (a b c : Option (List ℕ)) (out bytes : List ℕ) → Appends a b out → AppendsFront b c bytes → AppendsFront a c (out ++ bytes)
+front_after a b c out bytes p f = (out ++ f.0, appends_then a b c out f.0 p f.1, (f.2.0, append_assoc out f.0 f.2.0 ∙ ap (λ xs. out ++ xs) f.2.1))
+
+-- no line is executed any more
+pub stops_here : (w : World) (n : ℕ) (h0 : List ℕ) (left before now : Option (List ℕ)) (k : Option Rows) → k ≡ Some w.rows → AppendsLast before now → Executes (rest_told w n) h0 left before now k
+stops_here w n h0 left before now k e a = (
+  rest_of left,
+  rest_is_input left,
+  record {
+    lines = [];
+    others = h0 ++ rest_of left;
+    joined = refl;
+    done = ap (λ (t : Told). t.status) (nothing_told w n);
+    keeps = e ∙ ap (λ (t : Told). Some t.rows) (sym (nothing_told w n));
+    last = a.0;
+    wrote = subst (λ (t : Told). AppendsFront before now (t.bytes ++ last_line a.0)) (sym (nothing_told w n)) a.1;
+  },
+)
+
+alone_line : (w : World) (n : ℕ) (line : List ℕ) (h0 h1 : List ℕ) (l0 l1 : Option (List ℕ)) → CutsLine h0 h1 line l0 l1 Line → n ≤ line_limit → rest_told w n (line ++ newline ∷ []) ≡ line_alone w n line
+unfolding lines_told
+alone_line w n line h0 h1 l0 l1 k few = rest_line w n line [] k.is.1 k.is.2 few
+
+-- a run ends at a line
+pub line_stops : (h0 h1 line : List ℕ) (l0 l1 before now : Option (List ℕ)) (r : Option Rows) (w : World) (n : ℕ) → CutsLine h0 h1 line l0 l1 Line → n ≤ line_limit → StopsAtLine w n line before now r → Executes (rest_told w n) h0 l0 before now r
+line_stops h0 h1 line l0 l1 before now r w n k few (inl e) = stops_here w n h0 l0 before now r e.0 e.1
+line_stops h0 h1 line l0 l1 before now r w n k few (inr e) =
+    let alone = alone_line w n line h0 h1 l0 l1 k few in (
+      k.got ++ rest_of l1,
+      read_is_input l0 l1 k.got (rest_of l1) k.read (rest_is_input l1),
+      record {
+        lines = line ++ newline ∷ [];
+        others = h1 ++ rest_of l1;
+        joined = line_at_hand h0 h1 line k.got k.is.0 (rest_of l1) ∙ sym (line_then line (h1 ++ rest_of l1));
+        done = ap (λ (t : Told). t.status) alone ∙ e.done;
+        keeps = e.keeps ∙ ap (λ (t : Told). Some t.rows) (sym alone);
+        last = ends.Done;
+        wrote = subst (λ (t : Told). AppendsFront before now (t.bytes ++ [])) (sym alone) (front_more before now (line_alone w n line).bytes [] e.wrote);
+      },
+    )
+
+-- a run that has gone on ends
+pub executes_then : (whole : List ℕ → Told) (h0 h1 : List ℕ) (l0 l1 w0 w1 w2 : Option (List ℕ)) (k1 k2 : Option Rows) (c : Cluster) (n : ℕ) → GoesOn whole h0 h1 l0 l1 w0 w1 c k1 n
+    → ((v : World) → Holds c k1 v → Executes (rest_told v n) h1 l1 w1 w2 k2) → Executes whole h0 l0 w0 w2 k2
+executes_then whole h0 h1 l0 l1 w0 w1 w2 k1 k2 c n g y =
+    let x = y g.world g.holds in
+    let r = x.2 in
+    let told : whole (g.lines ++ r.lines) ≡ told_after g.out (rest_told g.world n r.lines) = sym (g.told r.lines) in (
+      g.got ++ x.0,
+      read_is_input l0 l1 g.got x.0 g.read x.1,
+      record {
+        lines = g.lines ++ r.lines;
+        others = r.others;
+        joined = lines_at_hand h0 h1 g.lines g.got x.0 g.joined ∙ ap (λ xs. g.lines ++ xs) r.joined ∙ sym (append_assoc g.lines r.lines r.others);
+        done = ap (λ (t : Told). t.status) told ∙ r.done;
+        keeps = r.keeps ∙ ap (λ (t : Told). Some t.rows) (sym told);
+        last = r.last;
+        wrote = subst (λ xs. AppendsFront w0 w2 xs) (sym (append_assoc g.out (rest_told g.world n r.lines).bytes (last_line r.last)) ∙ ap (λ (t : Told). t.bytes ++ last_line r.last) (sym told))
+            (front_after w0 w1 w2 g.out ((rest_told g.world n r.lines).bytes ++ last_line r.last) g.wrote r.wrote);
+      },
+    )
+
+-- lines whose scenario is done are told alone as that scenario
+pub alone_is : (rows : Rows) (lines : List ℕ) → (scenario rows lines).status ≡ ends.Done → lines_alone rows lines ≡ scenario rows lines
+alone_is rows [] e = let no : ends.BadLine 1 0 ≡ ends.Done = e in absurd (cc)
+alone_is rows (b ∷ lines) e = refl
+
+pub executes_alone : (rows : Rows) (h0 : List ℕ) (left before now : Option (List ℕ)) (k : Option Rows) → Executes (scenario rows) h0 left before now k → Executes (lines_alone rows) h0 left before now k
+executes_alone rows h0 left before now k x =
+    let r = x.2 in
+    let same : lines_alone rows r.lines ≡ scenario rows r.lines = alone_is rows r.lines r.done in (
+      x.0,
+      x.1,
+      record {
+        lines = r.lines;
+        others = r.others;
+        joined = r.joined;
+        done = ap (λ (t : Told). t.status) same ∙ r.done;
+        keeps = r.keeps ∙ ap (λ (t : Told). Some t.rows) (sym same);
+        last = r.last;
+        wrote = subst (λ (t : Told). AppendsFront before now (t.bytes ++ last_line r.last)) (sym same) r.wrote;
+      },
+    )
+
+-- no line is executed
+pub executes_none : (rows : Rows) (left before now : Option (List ℕ)) (k : Option Rows) → k ≡ Some rows → AppendsLast before now → Executes (lines_alone rows) [] left before now k
+executes_none rows left before now k e a = (rest_of left, rest_is_input left, record { lines = []; others = rest_of left; joined = refl; done = refl; keeps = e; last = a.0; wrote = a.1 })
+
+module _ (w0 w1 : Option (List ℕ)) (k : Option Rows) (w : World) (nodes n : ℕ) (line : List ℕ) (e : Event) (c : length w.nodes ≡ nodes) (o : event_of nodes line ≡ Ok e) where
+  event_alone : line_alone w n line ≡ told_after (reply_line n (step w e).1) (ended ends.Done (step w e).0.rows)
+  event_alone = line_is w nodes n line (Ok e) (λ v. ended ends.Done v.rows) c o
+
+  executes_line : k ≡ Some (step w e).0.rows → AppendsFront w0 w1 (reply_line n (step w e).1) → ExecutesLine w n line w0 w1 k
+  executes_line r f = record {
+    done = ap (λ (t : Told). t.status) event_alone;
+    keeps = r ∙ ap (λ (t : Told). Some t.rows) (sym event_alone);
+    wrote = subst (λ (t : Told). AppendsFront w0 w1 t.bytes) (sym event_alone) (front_more w0 w1 (reply_line n (step w e).1) [] f);
+  }
+
+  -- the reply is not written whole
+  pub reply_stops : (d : Cluster) (r : Reply) (text : List ℕ) → IsDone (step w e) d r × KeepsRows k (step w e).0 → text ≡ reply_line n r → AppendsFront w0 w1 text → StopsAtLine w n line w0 w1 k
+  reply_stops d r text done t f = inr (executes_line done.1.told (subst (λ xs. AppendsFront w0 w1 xs) (t ∙ ap (reply_line n) done.0.replied) f))
+
+  -- there is no reply
+  pub unreplied_stops : (d : Cluster) (r : Reply) → IsDone (step w e) d r × KeepsRows k (step w e).0 → AppendsFront w0 w1 (reply_line n (step w e).1) → StopsAtLine w n line w0 w1 k
+  unreplied_stops d r done f = inr (executes_line done.1.told f)
+
+  served_or_not : (s : Status) → (k ≡ Some w.rows) ⊎ (k ≡ Some (step w e).0.rows) → Keeps w0 w1 → StopsAtLine w n line w0 w1 k
+  served_or_not s (inl r) q = inl (r, keeps_last w0 w1 q)
+  served_or_not s (inr r) q = inr (executes_line r (keeps_front w0 w1 _ q))
+
+  -- the event is not answered
+  pub unserved_stops : (fault : StartFault) (s : Status) → Breaks (step w e) w k fault → EndsUnserved w0 w1 fault s → StopsAtLine w n line w0 w1 k
+  unserved_stops starts.KeepFault s b u = served_or_not s b.left_rows u.1
+  unserved_stops starts.NoMemory s b u = served_or_not s b.left_rows u.1
+  unserved_stops (starts.KeptBad node height) s b u = absurd (elim b.outside [ inl o ↦ cc | inr o ↦ cc ])
+  unserved_stops (starts.KeptOther node theirs ours) s b u = absurd (elim b.outside [ inl o ↦ cc | inr o ↦ cc ])
