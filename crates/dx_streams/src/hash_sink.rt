@@ -1,21 +1,22 @@
-ghost use Rattle.std.specs.Prelude.{◌≡◌, ◌++◌, [], Some, Ok, length};
+ghost use Rattle.std.specs.Prelude.{◌≡◌, ◌++◌, [], ◌∷◌, Some, Ok, length};
 ghost use Rattle.std.specs.Io.{WritesAtMost};
 ghost use Rattle.std.specs.Io.KnownBytes.{WriteAppends};
 ghost use Rattle.sha2.specs.Sha256.{sha256};
 ghost use Rattle.dx_io.specs.Causes.{WriteCause};
 ghost use Rattle.dx_streams.specs.Written.{bytes_of};
 
+use crate::history::History;
 use dx_io::{Sink, SinkError};
-use http_server::Log;
 use sha2::{Digest, Sha256};
 use std::marker::Model;
+use std::snapshot::Snapshot;
 
-/// A sink that keeps the digest of what is written to it, and no byte of it. Contracts see the bytes
-/// written; `history` is read by proofs alone, and has no bytes at run time.
+/// A sink that keeps the digest of what is written to it, and none of the bytes before the last. Contracts
+/// see the bytes written, which proofs read of `history`.
 #[derive(Drop)]
 pub struct HashSink {
     hasher: Sha256,
-    history: Log<u8, u8>,
+    history: History,
 }
 
 impl Model for HashSink {
@@ -25,17 +26,23 @@ impl Model for HashSink {
 
     ghost Value = { List ℕ };
 
-    ghost view = { λ s. bytes_of s.history.items };
+    ghost view = { λ s. bytes_of s.history };
 
-    ghost invariant = { λ s. Holds256 s.hasher (bytes_of s.history.items) };
+    ghost invariant = { λ s. Holds256 s.hasher (bytes_of s.history) };
 }
 
-/// Notes the bytes in a history that only proofs read.
-fn note(history: &mut Log<u8, u8>, piece: &[u8])
-    ensures { bytes_of history.new.items ≡ bytes_of history.old.items ++ piece.now }
+fn note_byte(history: &mut History, byte: u8)
+    ensures { bytes_of history.new ≡ bytes_of history.old ++ byte ∷ [] }
+{
+    *history = History::Then(Snapshot::of(history), byte);
+}
+
+/// Notes that a piece was written.
+fn note(history: &mut History, piece: &[u8])
+    ensures { bytes_of history.new ≡ bytes_of history.old ++ piece.now }
 {
     for byte in piece {
-        *history = history.and(byte, byte);
+        note_byte(history, *byte);
     }
 }
 
@@ -48,7 +55,7 @@ impl HashSink {
     {
         HashSink {
             hasher: Sha256::new(),
-            history: Log::new(),
+            history: History::Nothing,
         }
     }
 
