@@ -247,13 +247,13 @@ good_small p known time o h =
     let f = and_is (is_amount_of e.0 o.size) (is_subticks_of e.0 o.subticks) e.2 in
     (amount_small e.0 o.size f.0, subticks_small e.0 o.subticks f.1)
 
-order_fits : (s : State) (id : OrderId) (o : Order) → FitsOrderId id × (o.until < 2 ^ 32) → (o.id ≡ id) × IsTrue (is_good_stateful s.genesis.params (is_kept s o.id.who) s.clock.time o) → FitsOrder o
+order_fits : (s : State) (id : OrderId) (o : Order) → FitsOrderId o.id × (o.until < 2 ^ 32) → (o.id ≡ id) × IsTrue (is_good_stateful s.genesis.params (is_kept s o.id.who) s.clock.time o) → FitsOrder o
 order_fits s id o names h =
     let small = good_small s.genesis.params (is_kept s o.id.who) s.clock.time o h.1 in
     let size = small.0 in
     let subticks = small.1 in
     record {
-      id = subst FitsOrderId (sym h.0) names.0;
+      id = names.0;
       size = omega (arith, size);
       subticks = omega (arith, subticks);
       until = names.1;

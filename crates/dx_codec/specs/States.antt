@@ -161,5 +161,5 @@ FitsState s = FitsRows (rows_of s)
 pub record FitsNames (s : State) : Type 0 where
   pub accounts : (who : SubaccountId) (a : Account) → get s.accounts who ≡ Some a → FitsAccountId who
   pub filled : (id : OrderId) (r : FillRecord) → get s.filled id ≡ Some r → FitsOrderId id × (r.until < 2 ^ 32)
-  pub stateful : (id : OrderId) (o : Order) → get s.stateful id ≡ Some o → FitsOrderId id × (o.until < 2 ^ 32)
+  pub stateful : (id : OrderId) (o : Order) → get s.stateful id ≡ Some o → FitsOrderId o.id × (o.until < 2 ^ 32)
   pub record_count : len s.filled < 2 ^ 64

@@ -85,7 +85,7 @@ found_entry {K} {X} R exact P (x ∷ es) q v h e = go (R q x.0) refl e (found_en
     go Equal i f more = let same : x.1 ≡ v = cc in subst (λ (k : K). P k v) (sym (exact q x.0 i)) (subst (P x.0) same h.0)
 
 -- what holds of each entry holds of what is found at each key
-each_found : {K X : Type 0} (R : K → K → Ordering) → IsAntisymmetric R → (P : K → X → Type 0) (m : FinMap R X)
+pub each_found : {K X : Type 0} (R : K → K → Ordering) → IsAntisymmetric R → (P : K → X → Type 0) (m : FinMap R X)
     → AllByRecursion (λ e. P e.0 e.1) (entries m) → (q : K) (v : X) → get m q ≡ Some v → P q v
 each_found R exact P m h q v e = found_entry R exact P (entries m) q v h (sym (get-entries m q) ∙ e)
 
