@@ -5,10 +5,6 @@ use Rattle.sha2.specs.Sha256.{sha256}
 use Rattle.dx_types.specs.declared.Block.{Block}
 use Rattle.dx_types.specs.declared.Bad.{Bad}
 use Rattle.dx_io.specs.Rows.{Rows}
-use Rattle.dx_io.specs.declared.keeper.KeepError.{KeepError}
-use Rattle.dx_io.specs.declared.keeper.KeepError.TheVariants as keep
-use Rattle.dx_operations.specs.declared.faults.BlockFault.{BlockFault}
-use Rattle.dx_operations.specs.declared.faults.BlockFault.TheVariants as blocks
 use Rattle.dx_codec.specs.Genesis.{digest_of}
 use Rattle.dx_codec.specs.States.{state_bytes}
 use Rattle.dx_history.specs.Chains.{BadAt, OtherGenesis, kept, begun}
@@ -24,16 +20,6 @@ use Rattle.dx_node.specs.declared.faults.RestartFault.TheVariants as restarts
 -- the digest of the state after the blocks
 abbrev pub committed_digest : Node → List ℕ
 committed_digest p = sha256 (state_bytes (committed p))
-
--- a block that is not good is not committed
-abbrev pub commit_fault : BlockFault → CommitFault
-commit_fault (blocks.Bad bad) = commits.Bad bad
-commit_fault blocks.NoMemory = commits.NoMemory
-
--- nor is one that the keeper does not keep
-abbrev pub keep_fault : KeepError → CommitFault
-keep_fault keep.Failed = commits.KeepFault
-keep_fault keep.NoMemory = commits.NoMemory
 
 -- the block is refused for the fault; no part is bad where the keeper failed or there was no memory
 abbrev pub CommitRefused : {A : Type 0} → Result A Bad → CommitFault → Type 0
@@ -53,7 +39,7 @@ pub record Restarts (rows : Option Rows) (p : Node) (after : Held) (height : ℕ
   pub kept : AreKept rows p blocks
   -- the node has these blocks, and nothing that is not committed
   pub stands : StandsFor after (restarted p blocks)
-  pub height : height ≡ after.committed.clock.height
+  pub told : height ≡ after.committed.clock.height
 
 -- the rows of the node are no chain, for the fault; where the keeper does not tell its rows, or failed, nothing is said
 abbrev pub RestartRefused : Option Rows → Node → RestartFault → Type 0

@@ -317,7 +317,7 @@ pub enum CommitFault {
 }
 
 impl From<BlockFault> for CommitFault {
-    ghost use Rattle.dx_node.specs.Restarts.{commit_fault};
+    ghost use Rattle.dx_node.specs.Faults.{commit_fault};
 
     ghost from_gives = { λ refused fault. fault ≡ commit_fault refused };
 
@@ -330,7 +330,7 @@ impl From<BlockFault> for CommitFault {
 }
 
 impl From<KeepError> for CommitFault {
-    ghost use Rattle.dx_node.specs.Restarts.{keep_fault};
+    ghost use Rattle.dx_node.specs.Faults.{keep_fault};
 
     ghost from_gives = { λ failed fault. fault ≡ keep_fault failed };
 
