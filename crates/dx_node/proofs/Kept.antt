@@ -2,7 +2,7 @@
 use Rattle.std.proofs.Common.{◌≡◌, ℕ, ◌+◌, ◌<◌, ◌≤◌, ◌^◌, Bool, true, false, cond, not, ◌&&◌, ◌==◌, nat_le, List, [], ◌∷◌, ◌++◌, length, drop, Option, Some, None, Result, Ok, Err, ok_or, refl, sym, ap, subst, ◌∙◌, arith}
 use Rattle.std.specs.Prelude.{slice_get}
 use Rattle.std.specs.FinMap.{get}
-use Rattle.std.proofs.lemmas.List.{length-append}
+use Rattle.std.proofs.lemmas.List.{length-append, length-map}
 use Rattle.std.proofs.lemmas.List.Elements.{All-from_recursion}
 use Rattle.std.proofs.lemmas.Bool.{cond_both, both_ways}
 use Rattle.std.proofs.lemmas.Bool.Decides.{nat_tests}
@@ -11,6 +11,8 @@ use Rattle.dx_types.specs.declared.OrderId.{OrderId}
 use Rattle.dx_types.specs.declared.Order.{Order}
 use Rattle.dx_types.specs.declared.Op.{Op}
 use Rattle.dx_types.specs.declared.Clock.{Clock}
+use Rattle.dx_types.specs.declared.Genesis.{Genesis}
+use Rattle.dx_types.specs.declared.MarketInfo.{MarketInfo}
 use Rattle.dx_spec.specs.Step.{◌>>=◌, ◌>>◌}
 use Rattle.dx_spec.specs.State.{State, is_short_term}
 use Rattle.dx_spec.specs.Bounds.{most_orders}
@@ -19,6 +21,7 @@ use Rattle.dx_spec.specs.Operations.{ops_step}
 use Rattle.dx_spec.specs.Blocks.{fold_from}
 use Rattle.dx_spec.proofs.Steps.{ok_same, true_from_not}
 use Rattle.dx_spec.proofs.Scripts.{unit_passes, some_passes, stage_passes}
+use Rattle.dx_sound.specs.Within.{SameBase}
 use Rattle.dx_accounts.specs.Steady.{IsSteady}
 use Rattle.dx_rules.specs.Settled.{IsSettled}
 use Rattle.dx_book.proofs.Walks.{filter_shorter}
@@ -50,16 +53,23 @@ use Rattle.dx_node.proofs.Plain.{at_plain, faithful, kept_by, stand_back, stands
 use Rattle.dx_node.proofs.Tradable.{open_stands, book_for}
 use Rattle.dx_node.proofs.Parts.{parts_of, node_with, placed_node, place_is, again_is, swept_node, sweep_is}
 
--- the queue leaves the clock
-same_clock : (h : Held) → IsKept h → h.speculative.clock ≡ h.committed.clock
-same_clock h k =
+-- the queue leaves the genesis, the clock and the parameters of the markets
+same_base : (h : Held) → IsKept h → SameBase h.committed h.speculative
+same_base h k =
     let st = stands_plain h k in
-    let base = (speculative_is_sound (plain h) (faithful h (plain h) k st)).1 in
-    ap (λ (x : Held). x.speculative.clock) st.parts ∙ base.clock ∙ ap (λ (x : Held). x.committed.clock) (sym st.parts)
+    subst (λ (x : Held). SameBase x.committed x.speculative) (sym st.parts) (speculative_is_sound (plain h) (faithful h (plain h) k st)).1
+
+-- so both states have as many markets, by their genesis too
+pub same_markets : (h : Held) → IsKept h → length h.speculative.markets ≡ length h.committed.markets
+same_markets h k =
+    sym (length-map h.speculative.markets (λ (m : MarketInfo). m.params)) ∙ ap (λ ps. length ps) (same_base h k).params ∙ length-map h.committed.markets (λ (m : MarketInfo). m.params)
+
+pub same_listed : (h : Held) → IsKept h → length h.speculative.genesis.params.markets ≡ length h.committed.genesis.params.markets
+same_listed h k = ap (λ (g : Genesis). length g.params.markets) (same_base h k).genesis
 
 -- so the next height is that of the speculative state too
 pub next_of : (h : Held) (height : ℕ) → IsKept h → height ≡ h.committed.clock.height + 1 → IsNext height h.speculative
-next_of h height k n = n ∙ ap (λ (c : Clock). c.height + 1) (sym (same_clock h k))
+next_of h height k n = n ∙ ap (λ (c : Clock). c.height + 1) (sym (same_base h k).clock)
 
 -- the next height fits 32 bits
 pub height_fits : (s : State) → IsSettled s → s.clock.height + 1 < 2 ^ 32

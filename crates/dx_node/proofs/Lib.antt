@@ -1,5 +1,6 @@
 pub mod Lists
 pub mod Plain
+pub mod Works
 pub mod Feeding
 pub mod Crossing
 pub mod Rooms

@@ -18,9 +18,6 @@ use Rattle.dx_spec.specs.Bounds.{most_orders, is_price}
 use Rattle.dx_spec.specs.Operations.{ops_step}
 use Rattle.dx_spec.specs.Blocks.{most_messages, has_too_many_ops, block_step, fold_from}
 use Rattle.dx_sound.proofs.Blocks.{moves_on}
-use Rattle.dx_operations.specs.declared.faults.BlockFault.{BlockFault}
-use Rattle.dx_operations.specs.declared.faults.BlockFault.TheVariants as blocks
-use Rattle.dx_operations.specs.Faults.{Refuses}
 use Rattle.dx_accounts.specs.Steady.{IsSteady}
 use Rattle.dx_rules.specs.Settled.{IsSettled}
 use Rattle.dx_rules.proofs.Blocking.{IsSteady-IsSettled}
@@ -45,7 +42,10 @@ use Rattle.dx_node.specs.Fed.{Prices}
 use Rattle.dx_node.specs.Held.{Cancels, Held, held, IsKept}
 use Rattle.dx_node.specs.Pool.{add_at}
 use Rattle.dx_node.specs.Standing.{held_of, StandsFor, LeadsTo, Gives}
+use Rattle.dx_node.specs.declared.faults.CommitFault.{CommitFault}
+use Rattle.dx_node.specs.declared.faults.CommitFault.TheVariants as commits
 use Rattle.dx_node.specs.Faults.{IsRefused}
+use Rattle.dx_node.specs.Restarts.{CommitRefused}
 
 -- a node of a state alone
 fresh : (number : ℕ) (s : State) (cancels : Cancels) (feed : Prices) → IsSettled s → IsKept (held number s s [] [] cancels [] feed [])
@@ -250,9 +250,10 @@ kept_committed h n b rs k a settled =
     settled (subst IsSteady (sym a.speculative) (IsSteady-IsSettled n.committed settled)) (subst (λ (os : List Order). length os ≤ most_orders) (sym a.book) few)
 
 -- a block that is refused is not
-pub committed_bad : (g h : Held) (p : Node) (b : Block) (fault : BlockFault) → g ≡ h → Refuses fault (block_step g.committed b) → StandsFor h p → Refuses fault (commit p b)
-committed_bad g h p b blocks.NoMemory v e st = tt
-committed_bad g h p b (blocks.Bad part) v e st = commit_is g p b (Err part) (stand_back g h p v st) e
+pub committed_bad : (g h : Held) (p : Node) (b : Block) (fault : CommitFault) → g ≡ h → CommitRefused (block_step g.committed b) fault → StandsFor h p → CommitRefused (commit p b) fault
+committed_bad g h p b commits.NoMemory v e st = tt
+committed_bad g h p b commits.KeepFault v e st = tt
+committed_bad g h p b (commits.Bad part) v e st = commit_is g p b (Err part) (stand_back g h p v st) e
 
 -- a message waits
 pooled_is : (p : Node) (m : Msg) → pooled p m ≡ (add_at p.pool m >>= λ ms. Ok (record p { pool = ms }))

@@ -18,6 +18,12 @@ use Rattle.dx_node.specs.declared.faults.MessageFault.{MessageFault}
 use Rattle.dx_node.specs.declared.faults.MessageFault.TheVariants as messages
 use Rattle.dx_node.specs.declared.faults.SweepFault.{SweepFault}
 use Rattle.dx_node.specs.declared.faults.SweepFault.TheVariants as sweeps
+use Rattle.dx_io.specs.declared.keeper.KeepError.{KeepError}
+use Rattle.dx_io.specs.declared.keeper.KeepError.TheVariants as keep
+use Rattle.dx_operations.specs.declared.faults.BlockFault.{BlockFault}
+use Rattle.dx_operations.specs.declared.faults.BlockFault.TheVariants as blocks
+use Rattle.dx_node.specs.declared.faults.CommitFault.{CommitFault}
+use Rattle.dx_node.specs.declared.faults.CommitFault.TheVariants as commits
 
 -- a cause by its number alone
 abbrev pub cause : ℕ → Told
@@ -103,3 +109,13 @@ MessageRefused step fault = IsRefused step (message_cause fault)
 -- an account is not swept for the fault
 abbrev pub SweepRefused : {A : Type 0} → Result A Refusal → SweepFault → Type 0
 SweepRefused step fault = IsRefused step (sweep_cause fault)
+
+-- a block that is not good is not committed
+abbrev pub commit_fault : BlockFault → CommitFault
+commit_fault (blocks.Bad bad) = commits.Bad bad
+commit_fault blocks.NoMemory = commits.NoMemory
+
+-- nor is one that the keeper does not keep
+abbrev pub keep_fault : KeepError → CommitFault
+keep_fault keep.Failed = commits.KeepFault
+keep_fault keep.NoMemory = commits.NoMemory

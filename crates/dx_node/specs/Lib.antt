@@ -1,5 +1,6 @@
 pub mod Fed
 pub mod Held
+pub mod Works
 pub mod Standing
 pub mod Trades
 pub mod Sweeps

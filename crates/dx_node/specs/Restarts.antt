@@ -39,7 +39,7 @@ pub record Restarts (rows : Option Rows) (p : Node) (after : Held) (height : ℕ
   pub kept : AreKept rows p blocks
   -- the node has these blocks, and nothing that is not committed
   pub stands : StandsFor after (restarted p blocks)
-  pub height : height ≡ after.committed.clock.height
+  pub told : height ≡ after.committed.clock.height
 
 -- the rows of the node are no chain, for the fault; where the keeper does not tell its rows, or failed, nothing is said
 abbrev pub RestartRefused : Option Rows → Node → RestartFault → Type 0

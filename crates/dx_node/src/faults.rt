@@ -4,7 +4,9 @@ ghost use Rattle.std.specs.Prelude.{◌≡◌};
 ghost use Rattle.dx_node.specs.Faults.{place_cause, cancel_cause, feed_cause, propose_cause, message_cause, sweep_cause};
 
 use crate::refusal::{Refusal, cause, cause_until};
+use dx_io::KeepError;
 use dx_orders::OrderFault;
+use dx_rules::BlockFault;
 use dx_types::{Bad, NoMemory};
 use thiserror::Error;
 
@@ -312,6 +314,32 @@ pub enum CommitFault {
     /// There was no memory.
     #[error("out of memory")]
     NoMemory,
+}
+
+impl From<BlockFault> for CommitFault {
+    ghost use Rattle.dx_node.specs.Faults.{commit_fault};
+
+    ghost from_gives = { λ refused fault. fault ≡ commit_fault refused };
+
+    fn from(refused: BlockFault) -> CommitFault {
+        match refused {
+            BlockFault::Bad(bad) => CommitFault::Bad(bad),
+            BlockFault::NoMemory => CommitFault::NoMemory,
+        }
+    }
+}
+
+impl From<KeepError> for CommitFault {
+    ghost use Rattle.dx_node.specs.Faults.{keep_fault};
+
+    ghost from_gives = { λ failed fault. fault ≡ keep_fault failed };
+
+    fn from(failed: KeepError) -> CommitFault {
+        match failed {
+            KeepError::Failed => CommitFault::KeepFault,
+            KeepError::NoMemory => CommitFault::NoMemory,
+        }
+    }
 }
 
 /// Why a node is not restarted ("Rows" in docs/RULES.md).

@@ -1,10 +1,11 @@
 //! A validator node: it matches orders on its own, proposes what it matched, checks blocks and commits them.
 //!
 //! It stands on `dx_rules` for blocks, on `dx_match`, `dx_book` and `dx_queue` for what a node has not committed, on
-//! `dx_replay` for what it places again after a block, on `dx_state` for its two states, and on `dx_node_spec`, whose
+//! `dx_replay` for what it places again after a block, on `dx_work` for its two states, and on `dx_node_spec`, whose
 //! plain nodes are computed again from their blocks each time. A [`Node`] keeps the state after its blocks and the one
-//! after its queue. For every plain node that it stands for (`specs/Standing`) each call's answer is that of the
-//! definition, and the node stands for the plain node after it.
+//! after its queue, as the committed and the present content of one work ([`Node::work`]). For every plain node that it
+//! stands for (`specs/Standing`) each call's answer is that of the definition, and the node stands for the plain node
+//! after it.
 //!
 //! What a node tells of its committed state is the fold of its blocks, whatever it matched before
 //! ([`committed_stays`]). [`Node::check`] and each refused call leave all of it as it was. The reads of what is not
@@ -31,6 +32,7 @@ mod prices;
 mod proposing;
 mod reads;
 mod refusal;
+mod suspended;
 mod sweeping;
 mod trades;
 mod votes;

@@ -5,7 +5,8 @@ ghost use Rattle.dx_spec.specs.Blocks.{block_step};
 ghost use Rattle.dx_spec.specs.Genesis.{IsGenesis};
 ghost use Rattle.dx_spec.specs.Audits.{audit as audit_of};
 ghost use Rattle.dx_operations.specs.Faults.{Refuses};
-ghost use Rattle.dx_node_spec.specs.Node.{Node as PlainNode, new_node, committed as committed_of};
+ghost use Rattle.dx_work.specs.Lines.{committed as committed_in, present as present_in};
+ghost use Rattle.dx_node_spec.specs.Node.{Node as PlainNode, new_node, committed as committed_of, speculative as speculative_of};
 ghost use Rattle.dx_node_spec.specs.Placing.{place as placed_with};
 ghost use Rattle.dx_node_spec.specs.Events.{fed, pooled, cancel as cancelled_with, cancel_all as all_cancelled_with, sweep as swept_with};
 ghost use Rattle.dx_node_spec.specs.Commits.{commit as committed_with, replay_next as replayed};
@@ -26,7 +27,7 @@ use crate::cancelling::{
     MOST_CANCELS, check_cancel, count, end_all, end_order, orders_of, with_ends,
 };
 use crate::cancels::Cancels;
-use crate::commits::{After, apply};
+use crate::commits::After;
 use crate::faults::{
     CancelFault, CommitFault, FeedFault, MessageFault, PlaceFault, ProposeFault, RestartFault,
     SweepFault,
@@ -36,7 +37,8 @@ use crate::placed::Placed;
 use crate::placing::{place_again, place_at};
 use crate::pool::add;
 use crate::proposing::check_time;
-use crate::reads::{best_of, has_market};
+use crate::reads::{amount_of, best_of, has_market};
+use crate::suspended::{check_committed, commit_block};
 use crate::sweeping::{Swept, sweep_at};
 use crate::votes::votes;
 use crate::waiting::Waiting;
@@ -45,21 +47,21 @@ use dx_io::Keeper;
 use dx_ledger::Ledger;
 use dx_queue::Queue;
 use dx_replay::purge;
-use dx_rules::{BlockFault, check_block, genesis_is_settled, is_price};
+use dx_rules::{BlockFault, genesis_is_settled, is_price};
 use dx_state::PlainState;
 use dx_trade::filled_of;
 use dx_types::{Account, Audit, Block, Genesis, List, Msg, NoMemory, Order, OrderId, SubaccountId};
+use dx_work::Work;
 use std::alloc::Global;
 use std::marker::Model;
 
-/// A node: the states after its blocks and after its queue, its queue, its book, its cancels, the messages that wait,
-/// its fed prices, and the orders to place again. Contracts see all that a plain node has, and the plain nodes that
-/// have the same.
+/// A node: the states after its blocks and after its queue as the committed and the present content of a work, its
+/// queue, its book, its cancels, the messages that wait, its fed prices, and the orders to place again. Contracts see
+/// all that a plain node has, and the plain nodes that have the same.
 #[derive(Drop)]
 pub struct Node {
     number: u32,
-    committed: PlainState,
-    speculative: PlainState,
+    work: Work,
     queue: Queue,
     book: Book,
     cancels: Cancels,
@@ -69,16 +71,17 @@ pub struct Node {
 }
 
 impl Model for Node {
-    ghost use Rattle.dx_node.specs.Held.{Held, coded_held, held, IsKept};
+    ghost use Rattle.dx_node.specs.Held.{Held, coded_held};
+    ghost use Rattle.dx_node.specs.Works.{held_over, KeepsWork};
 
     ghost Value = { Held };
 
     ghost coded = { coded_held };
 
-    ghost view = { λ n. held n.number n.committed n.speculative n.queue n.book.orders n.cancels n.pool n.feed n.again };
+    ghost view = { λ n. held_over n.number n.work n.queue n.book.orders n.cancels n.pool n.feed n.again };
 
-    ghost invariant = { λ n. IsKept
-        (held n.number n.committed n.speculative n.queue n.book.orders n.cancels n.pool n.feed n.again) };
+    ghost invariant = { λ n. KeepsWork n.work
+        (held_over n.number n.work n.queue n.book.orders n.cancels n.pool n.feed n.again) };
 }
 
 impl Node {
@@ -88,12 +91,11 @@ impl Node {
         ensures { IfOk result (λ node. StandsFor node (new_node id g.now)) }
     {
         genesis_is_settled();
-        let committed = PlainState::genesis(alloc, g)?;
-        let speculative = committed.try_clone()?;
+        let state = PlainState::genesis(alloc, g)?;
+        let work = Work::new(alloc, state)?;
         Ok(Node {
             number: id,
-            committed,
-            speculative,
+            work,
             queue: Queue::new(alloc),
             book: Book::new(alloc),
             cancels: Cancels::new(alloc),
@@ -119,21 +121,21 @@ impl Node {
     pub fn height(&self) -> u32
         ensures { (p : PlainNode) → StandsFor self.now p → result ≡ (committed_of p).clock.height }
     {
-        self.committed.clock().height
+        self.work.committed_clock().height
     }
 
     /// An account after the blocks, if it is kept. It takes no memory.
     pub fn committed_account(&self, who: SubaccountId) -> Option<Account>
         ensures { (p : PlainNode) → StandsFor self.now p → result ≡ tells.committed_account p who }
     {
-        self.committed.account(who)
+        self.work.committed_account(who)
     }
 
     /// An account after the blocks and the queue, if it is kept. It takes no memory.
     pub fn speculative_account(&self, who: SubaccountId) -> Option<Account>
         ensures { (p : PlainNode) → StandsFor self.now p → result ≡ tells.speculative_account p who }
     {
-        self.speculative.account(who)
+        self.work.account(who)
     }
 
     /// How much of an order is filled after the blocks, and after the queue too: base quantums. It takes no
@@ -142,8 +144,8 @@ impl Node {
         ensures { (p : PlainNode) → StandsFor self.now p → result ≡ tells.filled_amounts p id.now }
     {
         (
-            filled_of(&self.committed, id),
-            filled_of(&self.speculative, id),
+            amount_of(self.work.committed_filled(id)),
+            filled_of(&self.work, id),
         )
     }
 
@@ -152,11 +154,11 @@ impl Node {
     pub fn best(&self, market: u32) -> Option<[u64; 4]>
         ensures { (p : PlainNode) → StandsFor self.now p → result ≡ tells.best_prices p market }
     {
-        if !has_market(&self.committed, market) {
+        if !has_market(&self.work, market) {
             return None;
         }
-        let bid = best_of(&self.speculative, &self.book, market, true);
-        let ask = best_of(&self.speculative, &self.book, market, false);
+        let bid = best_of(&self.work, &self.book, market, true);
+        let ask = best_of(&self.work, &self.book, market, false);
         Some([bid.0, bid.1, ask.0, ask.1])
     }
 
@@ -164,7 +166,16 @@ impl Node {
     pub fn audit(&self) -> Audit
         ensures { (p : PlainNode) → StandsFor self.now p → result ≡ audit_of (committed_of p) }
     {
-        self.committed.audit()
+        self.work.committed_audit()
+    }
+
+    /// The work that the node keeps its states in: the state after the blocks is its committed content, and the one
+    /// after the queue its present one. It takes no memory.
+    pub fn work(&self) -> &Work
+        ensures committed { (p : PlainNode) → StandsFor self.now p → committed_in result.now ≡ committed_of p }
+        ensures present { (p : PlainNode) → StandsFor self.now p → present_in result.now ≡ speculative_of p }
+    {
+        &self.work
     }
 
     /// How many orders are to be placed again ("After a commit" in docs/RULES.md). It takes no memory.
@@ -187,7 +198,7 @@ impl Node {
         ensures same { self.new ≡ self.old }
     {
         let alloc = self.allocator();
-        check_block(alloc, &mut self.committed, block)
+        check_committed(alloc, &mut self.work, block)
     }
 
     /// Commits a block, and tells the results of its messages: the block becomes the node's last, and its bytes are
@@ -199,7 +210,11 @@ impl Node {
     ///
     /// `Bad` with the block's first bad part, exactly as [`Node::check`] has it; `KeepFault` only where the keeper's
     /// count of faults rose; `NoMemory` where there is none. The node and the rows are then as before.
-    pub fn commit<K: Keeper>(&mut self, block: &Block, keeper: &mut K) -> Result<List<u32>, CommitFault>
+    pub fn commit<K: Keeper>(
+        &mut self,
+        block: &Block,
+        keeper: &mut K,
+    ) -> Result<List<u32>, CommitFault>
         requires idle { self.old.again ≡ [] }
         ensures ok { IfOk result (λ results. (p : PlainNode) → StandsFor self.old p
             → Gives self.new results (committed_with p block.now)) }
@@ -213,7 +228,27 @@ impl Node {
         ensures later { K.faults keeper.old ≤ K.faults keeper.new }
         ensures failed { IsErrOf result CommitFault.KeepFault → Rose (K.faults keeper.old) (K.faults keeper.new) }
     {
-        Err(CommitFault::NoMemory)
+        let alloc = self.allocator();
+        let After {
+            results,
+            again,
+            pool,
+        } = commit_block(
+            alloc,
+            &mut self.work,
+            &self.queue,
+            &self.book,
+            &self.pool,
+            self.number,
+            block,
+            keeper,
+        )?;
+        purge(&mut self.book, &again, &self.work);
+        self.queue.clear();
+        self.cancels.drop_ended(block.height);
+        self.pool = pool;
+        self.again = Waiting::of(again);
+        Ok(results)
     }
 
     /// Starts anew from the rows that a keeper has of the node's number: their blocks are the node's, its queue, book,
@@ -267,7 +302,7 @@ impl Node {
         let height = self.next_height();
         place_again(
             alloc,
-            &mut self.speculative,
+            &mut self.work,
             height,
             &mut self.queue,
             &mut self.book,
@@ -305,7 +340,7 @@ impl Node {
             → FeedRefused (fed p market price) fault) }
         ensures same { OnErr result (self.new ≡ self.old) }
     {
-        if market as usize >= self.committed.genesis().params.markets.len() {
+        if market as usize >= self.work.params().markets.len() {
             return Err(FeedFault::NoMarket);
         }
         if !is_price(price) {
@@ -329,8 +364,8 @@ impl Node {
             time,
             ops: self.queue.ops().try_clone()?,
             msgs: self.pool.try_clone()?,
-            votes: votes(alloc, &self.speculative, &self.book)?,
-            prices: self.feed.allowed(alloc, &self.speculative)?,
+            votes: votes(alloc, &self.work, &self.book)?,
+            prices: self.feed.allowed(alloc, &self.work)?,
         })
     }
 
@@ -350,7 +385,7 @@ impl Node {
             → IsGoodBlock (committed_of p) block) }
         ensures short { IfOk result IsShort }
     {
-        check_time(self.committed.clock(), time)?;
+        check_time(self.work.committed_clock(), time)?;
         match self.proposal(time) {
             Ok(block) => Ok(block),
             Err(NoMemory) => Err(ProposeFault::NoMemory),
@@ -361,7 +396,7 @@ impl Node {
     fn next_height(&self) -> u32
         ensures { result ≡ self.now.committed.clock.height + 1 }
     {
-        self.committed.clock().height + 1
+        self.work.committed_clock().height + 1
     }
 
     /// Places a short-term order: it takes what the book offers, the queue gets what it took, and the rest of
@@ -383,7 +418,7 @@ impl Node {
         let height = self.next_height();
         let placed = place_at(
             alloc,
-            &mut self.speculative,
+            &mut self.work,
             height,
             &mut self.queue,
             &mut self.book,
@@ -408,13 +443,7 @@ impl Node {
         ensures same { OnErr result (self.new ≡ self.old) }
     {
         let alloc = self.allocator();
-        let swept = sweep_at(
-            alloc,
-            &mut self.speculative,
-            &mut self.queue,
-            &mut self.book,
-            who,
-        )?;
+        let swept = sweep_at(alloc, &mut self.work, &mut self.queue, &mut self.book, who)?;
         Ok(swept)
     }
 

@@ -1,6 +1,7 @@
 use Rattle.std.proofs.Common.{rules, ◌≡◌, ◌+◌, IfErr, sym, ap, ◌∙◌}
 use Rattle.dx_trade.proofs.Steps.{if_err}
-use Rattle.dx_node.specs.Held.{Held, held}
+use Rattle.dx_node.specs.Held.{Held}
+use Rattle.dx_node.specs.Works.{held_over}
 use Rattle.dx_node.specs.Pool.{add_at}
 use Rattle.dx_node.specs.Faults.{message_cause, MessageRefused}
 use Rattle.dx_node.proofs.Plain.{kept_pooled, pooled_good, pooled_bad}
@@ -13,10 +14,10 @@ returns-in_err-add-clause-refused c =
 
 pub invariant_of-self-2 : goal.invariant_of-self-2
 invariant_of-self-2 c =
-    let g : Held = held c.self.inside.number c.self.inside.committed c.self.inside.speculative c.self.inside.queue c.self.inside.book.orders c.self.inside.cancels c.self.inside.pool c.self.inside.feed c.self.inside.again in
-    kept_pooled g c.args.msg.now c.add.new.pool c.self.invariant c.in_ok-add.ensures.ok
+    let g : Held = held_over c.self.inside.number c.self.inside.work c.self.inside.queue c.self.inside.book.orders c.self.inside.cancels c.self.inside.pool c.self.inside.feed c.self.inside.again in
+    record { kept = kept_pooled g c.args.msg.now c.add.new.pool c.self.invariant.kept c.in_ok-add.ensures.ok; nothing = c.self.invariant.nothing }
 
 pub returns-clause-ok : goal.returns-clause-ok
 returns-clause-ok c =
-    let g : Held = held c.self.inside.number c.self.inside.committed c.self.inside.speculative c.self.inside.queue c.self.inside.book.orders c.self.inside.cancels c.self.inside.pool c.self.inside.feed c.self.inside.again in
-    λ p st. pooled_good g c.args.self.now p c.args.msg.now c.add.new.pool c.self.view_is c.self.invariant c.in_ok-add.ensures.ok st
+    let g : Held = held_over c.self.inside.number c.self.inside.work c.self.inside.queue c.self.inside.book.orders c.self.inside.cancels c.self.inside.pool c.self.inside.feed c.self.inside.again in
+    λ p st. pooled_good g c.args.self.now p c.args.msg.now c.add.new.pool c.self.view_is c.self.invariant.kept c.in_ok-add.ensures.ok st
