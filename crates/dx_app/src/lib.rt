@@ -19,6 +19,7 @@
 mod laws;
 mod lines;
 mod output;
+mod own_run;
 mod program;
 mod replay;
 
