@@ -5,11 +5,14 @@ use Rattle.dx_types.specs.declared.status.Status.TheVariants as ends
 use Rattle.dx_types.specs.declared.Genesis.{Genesis}
 use Rattle.dx_io.specs.Rows.{Rows}
 use Rattle.dx_history.specs.Chains.{Unkept, BadAt, OtherGenesis}
+use Rattle.dx_words.specs.declared.words.Job.{Job}
+use Rattle.dx_words.specs.declared.words.Job.TheVariants as jobs
+use Rattle.dx_words.specs.declared.words.Words.{Words}
 use Rattle.dx_app.specs.Lines.{cut}
 use Rattle.dx_app.specs.Output.{AppendsFront}
-use Rattle.dx_app.specs.Transcript.{Told, line_limit, genesis_in, unkept_status, scenario, transcript}
+use Rattle.dx_app.specs.Transcript.{Told, line_limit, genesis_in, unkept_status, scenario, job_told, asked_told}
 use Rattle.dx_app.specs.Runs.{is_fault, EndsAs, Says, IsRunOf}
-use Rattle.dx_app.specs.Causes.{faults, IsStarted, IsGoodScenario, IsFirstBad, IsTooLong, IsKeptBad, IsKeptOther, IsTaken, HadSurely, ComesExactly, IsWhole}
+use Rattle.dx_app.specs.Causes.{faults, IsStarted, IsGoodScenario, IsFirstBad, IsTooLong, IsKeptBad, IsKeptOther, IsReplay, IsOwnRun, HadSurely, ComesExactly, IsWhole}
 use Rattle.dx_app.proofs.Starting.{start_fault, or_start, started_law, start_refused, kept_bad_law, kept_other_law}
 use Rattle.dx_app.proofs.Endings.{is_end_of_lines, lines_end, end_by, scenario_status, done_there, done_only, bad_there, bad_only, long_there, long_only}
 use Rattle.dx_app.proofs.Limits.{follows_limit}
@@ -181,39 +184,77 @@ module _ (rows : Rows) (left before now : Option (List ℕ)) (k : Option Rows) (
       → HadSurely left (IsGoodScenario rows) → ¬ ReadRose → ¬ WriteRose → ¬ KeepRose → IsWhole (scenario rows) left before now k s
   lines_whole R W K read write keep surely calm quiet still = whole_by (scenario rows) left before now k s R W K r read write keep (λ input is. (good_law rows input).1 (surely input is)) calm quiet still
 
--- what holds of the lines holds of a run whose words are taken, and a run whose words are not taken ends as it is told
-words_law : {A : Type 0} (words : List A) (rows : Rows) (status : Status) (IsOfKind : List ℕ → Type 0) → (ends.Usage ≡ status → ⊥) → ((input : List ℕ) → ((scenario rows input).status ≡ status) ↔ IsOfKind input)
-    → (input : List ℕ) → ((transcript words rows input).status ≡ status) ↔ (IsTaken words × IsOfKind input)
-words_law [] rows status IsOfKind other law input = (λ e. (refl, (law input).0 e), λ both. (law input).1 both.1)
-words_law (word ∷ more) rows status IsOfKind other law input = (λ e. absurd (other e), λ both. let no : word ∷ more ≡ [] = both.0 in absurd (cc))
+-- a run that replays its input ends as its lines say, and no other run ends so
+job_law : (j : Job) (seed events : ℕ) (rows : Rows) (status : Status) (IsOfKind : List ℕ → Type 0) → (ends.Done ≡ status → ⊥) → ((input : List ℕ) → ((scenario rows input).status ≡ status) ↔ IsOfKind input)
+    → (input : List ℕ) → ((job_told j seed events rows input).status ≡ status) ↔ ((Some j ≡ Some jobs.Replay) × IsOfKind input)
+job_law jobs.Replay seed events rows status IsOfKind undone law input = (λ e. (refl, (law input).0 e), λ both. (law input).1 both.1)
+job_law jobs.SelfRun seed events rows status IsOfKind undone law input = (λ e. absurd (undone e), λ both. let no : Some jobs.SelfRun ≡ Some jobs.Replay = both.0 in absurd (cc))
+job_law jobs.Generate seed events rows status IsOfKind undone law input = (λ e. absurd (undone e), λ both. let no : Some jobs.Generate ≡ Some jobs.Replay = both.0 in absurd (cc))
 
-usage_law : {A : Type 0} (words : List A) (rows : Rows) (input : List ℕ) → ((transcript words rows input).status ≡ ends.Usage) ↔ (IsTaken words → ⊥)
-usage_law [] rows input = (λ e. absurd (no_usage rows input e), λ untaken. absurd (untaken refl))
-usage_law (word ∷ more) rows input = (λ e taken. let no : word ∷ more ≡ [] = taken in absurd (cc), λ untaken. refl)
+asked_law : (asked : Option Words) (rows : Rows) (status : Status) (IsOfKind : List ℕ → Type 0) → (ends.Usage ≡ status → ⊥) → (ends.Done ≡ status → ⊥) → ((input : List ℕ) → ((scenario rows input).status ≡ status) ↔ IsOfKind input)
+    → (input : List ℕ) → ((asked_told asked rows input).status ≡ status) ↔ (IsReplay asked × IsOfKind input)
+asked_law None rows status IsOfKind other undone law input = (λ e. absurd (other e), λ both. let no : None {A = Job} ≡ Some jobs.Replay = both.0 in absurd (cc))
+asked_law (Some w) rows status IsOfKind other undone law input = job_law w.job w.seed w.events rows status IsOfKind undone law input
 
-module _ {A : Type 0} (words : List A) (rows : Rows) (left before now : Option (List ℕ)) (k : Option Rows) (s : Status) (r : IsRunOf (transcript words rows) left before now k s) where
-  taken_by : (IsOfKind : List ℕ → Type 0) (status : Status) → is_fault status ≡ false → (ends.Usage ≡ status → ⊥) → ((input : List ℕ) → ((scenario rows input).status ≡ status) ↔ IsOfKind input) → ComesExactly left s status (λ input. IsTaken words × IsOfKind input)
-  taken_by IsOfKind status plain other law = comes_by (transcript words rows) left before now k s r (λ input. IsTaken words × IsOfKind input) status plain (words_law words rows status IsOfKind other law)
+-- a run is done exactly where a generated scenario is asked for, or the replay of a good one
+job_good : (j : Job) (seed events : ℕ) (rows : Rows) (input : List ℕ)
+    → ((job_told j seed events rows input).status ≡ ends.Done) ↔ (((Some j ≡ Some jobs.SelfRun) ⊎ (Some j ≡ Some jobs.Generate)) ⊎ ((Some j ≡ Some jobs.Replay) × IsGoodScenario rows input))
+job_good jobs.Replay seed events rows input = (
+  λ e. inr (refl, (good_law rows input).0 e),
+  λ h. elim h [
+    | inl (inl own) ↦ let no : Some jobs.Replay ≡ Some jobs.SelfRun = own in absurd (cc)
+    | inl (inr own) ↦ let no : Some jobs.Replay ≡ Some jobs.Generate = own in absurd (cc)
+    | inr both ↦ (good_law rows input).1 both.1
+  ],
+)
+job_good jobs.SelfRun seed events rows input = (λ e. inl (inl refl), λ h. refl)
+job_good jobs.Generate seed events rows input = (λ e. inl (inr refl), λ h. refl)
 
-  pub run_good : ComesExactly left s ends.Done (λ input. IsTaken words × IsGoodScenario rows input)
-  run_good = taken_by (IsGoodScenario rows) ends.Done refl (λ e. cc) (good_law rows)
+asked_good : (asked : Option Words) (rows : Rows) (input : List ℕ) → ((asked_told asked rows input).status ≡ ends.Done) ↔ (IsOwnRun asked ⊎ (IsReplay asked × IsGoodScenario rows input))
+asked_good None rows input = (
+  λ e. absurd (cc),
+  λ h. elim h [
+    | inl (inl own) ↦ let no : None {A = Job} ≡ Some jobs.SelfRun = own in absurd (cc)
+    | inl (inr own) ↦ let no : None {A = Job} ≡ Some jobs.Generate = own in absurd (cc)
+    | inr both ↦ let no : None {A = Job} ≡ Some jobs.Replay = both.0 in absurd (cc)
+  ],
+)
+asked_good (Some w) rows input = job_good w.job w.seed w.events rows input
 
-  pub run_bad : (line field : ℕ) → ComesExactly left s (ends.BadLine line field) (λ input. IsTaken words × IsFirstBad rows input line field)
-  run_bad line field = taken_by (λ input. IsFirstBad rows input line field) (ends.BadLine line field) refl (λ e. cc) (bad_law rows line field)
+-- it ends for its words exactly where they are not taken
+job_usage : (j : Job) (seed events : ℕ) (rows : Rows) (input : List ℕ) → (job_told j seed events rows input).status ≡ ends.Usage → ⊥
+job_usage jobs.Replay seed events rows input e = no_usage rows input e
+job_usage jobs.SelfRun seed events rows input e = cc
+job_usage jobs.Generate seed events rows input e = cc
 
-  pub run_long : ComesExactly left s ends.Long (λ input. IsTaken words × IsTooLong rows input)
-  run_long = taken_by (IsTooLong rows) ends.Long refl (λ e. cc) (long_law rows)
+asked_usage : (asked : Option Words) (rows : Rows) (input : List ℕ) → ((asked_told asked rows input).status ≡ ends.Usage) ↔ (asked ≡ None)
+asked_usage None rows input = (λ e. refl, λ e. refl)
+asked_usage (Some w) rows input = (λ e. absurd (job_usage w.job w.seed w.events rows input e), λ e. let no : Some w ≡ None = e in absurd (cc))
 
-  pub run_kept_bad : (node height : ℕ) → ComesExactly left s (ends.KeptBad node height) (λ input. IsTaken words × IsKeptBad rows input node height)
-  run_kept_bad node height = taken_by (λ input. IsKeptBad rows input node height) (ends.KeptBad node height) refl (λ e. cc) (bad_kept_law rows node height)
+module _ (asked : Option Words) (rows : Rows) (left before now : Option (List ℕ)) (k : Option Rows) (s : Status) (r : IsRunOf (asked_told asked rows) left before now k s) where
+  replay_by : (IsOfKind : List ℕ → Type 0) (status : Status) → is_fault status ≡ false → (ends.Usage ≡ status → ⊥) → (ends.Done ≡ status → ⊥) → ((input : List ℕ) → ((scenario rows input).status ≡ status) ↔ IsOfKind input)
+      → ComesExactly left s status (λ input. IsReplay asked × IsOfKind input)
+  replay_by IsOfKind status plain other undone law = comes_by (asked_told asked rows) left before now k s r (λ input. IsReplay asked × IsOfKind input) status plain (asked_law asked rows status IsOfKind other undone law)
 
-  pub run_kept_other : (node : ℕ) (theirs ours : List ℕ) → ComesExactly left s (ends.KeptOther node theirs ours) (λ input. IsTaken words × IsKeptOther rows input node theirs ours)
-  run_kept_other node theirs ours = taken_by (λ input. IsKeptOther rows input node theirs ours) (ends.KeptOther node theirs ours) refl (λ e. cc) (other_kept_law rows node theirs ours)
+  pub run_good : ComesExactly left s ends.Done (λ input. IsOwnRun asked ⊎ (IsReplay asked × IsGoodScenario rows input))
+  run_good = comes_by (asked_told asked rows) left before now k s r (λ input. IsOwnRun asked ⊎ (IsReplay asked × IsGoodScenario rows input)) ends.Done refl (asked_good asked rows)
 
-  pub run_usage : ComesExactly left s ends.Usage (λ input. IsTaken words → ⊥)
-  run_usage = comes_by (transcript words rows) left before now k s r (λ input. IsTaken words → ⊥) ends.Usage refl (usage_law words rows)
+  pub run_bad : (line field : ℕ) → ComesExactly left s (ends.BadLine line field) (λ input. IsReplay asked × IsFirstBad rows input line field)
+  run_bad line field = replay_by (λ input. IsFirstBad rows input line field) (ends.BadLine line field) refl (λ e. cc) (λ e. cc) (bad_law rows line field)
+
+  pub run_long : ComesExactly left s ends.Long (λ input. IsReplay asked × IsTooLong rows input)
+  run_long = replay_by (IsTooLong rows) ends.Long refl (λ e. cc) (λ e. cc) (long_law rows)
+
+  pub run_kept_bad : (node height : ℕ) → ComesExactly left s (ends.KeptBad node height) (λ input. IsReplay asked × IsKeptBad rows input node height)
+  run_kept_bad node height = replay_by (λ input. IsKeptBad rows input node height) (ends.KeptBad node height) refl (λ e. cc) (λ e. cc) (bad_kept_law rows node height)
+
+  pub run_kept_other : (node : ℕ) (theirs ours : List ℕ) → ComesExactly left s (ends.KeptOther node theirs ours) (λ input. IsReplay asked × IsKeptOther rows input node theirs ours)
+  run_kept_other node theirs ours = replay_by (λ input. IsKeptOther rows input node theirs ours) (ends.KeptOther node theirs ours) refl (λ e. cc) (λ e. cc) (other_kept_law rows node theirs ours)
+
+  pub run_usage : ComesExactly left s ends.Usage (λ input. asked ≡ None)
+  run_usage = comes_by (asked_told asked rows) left before now k s r (λ input. asked ≡ None) ends.Usage refl (asked_usage asked rows)
 
   pub run_whole : (ReadRose WriteRose KeepRose : Type 0) → (s ≡ ends.ReadFault → ReadRose) → (s ≡ ends.WriteFault → WriteRose) → (s ≡ ends.KeepFault → KeepRose)
-      → IsTaken words → HadSurely left (IsGoodScenario rows) → ¬ ReadRose → ¬ WriteRose → ¬ KeepRose → IsWhole (transcript words rows) left before now k s
-  run_whole R W K read write keep taken surely calm quiet still =
-      whole_by (transcript words rows) left before now k s R W K r read write keep (λ input is. (words_law words rows ends.Done (IsGoodScenario rows) (λ e. cc) (good_law rows) input).1 (taken, surely input is)) calm quiet still
+      → HadSurely left (λ input. IsOwnRun asked ⊎ (IsReplay asked × IsGoodScenario rows input)) → ¬ ReadRose → ¬ WriteRose → ¬ KeepRose → IsWhole (asked_told asked rows) left before now k s
+  run_whole R W K read write keep surely calm quiet still =
+      whole_by (asked_told asked rows) left before now k s R W K r read write keep (λ input is. (asked_good asked rows input).1 (surely input is)) calm quiet still

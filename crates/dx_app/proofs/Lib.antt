@@ -9,3 +9,5 @@ pub mod Starting
 pub mod Caused
 pub mod Counts
 pub mod Prompt
+pub mod Generated
+pub mod Asked

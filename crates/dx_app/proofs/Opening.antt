@@ -1,7 +1,7 @@
 -- The first line of an input, and the start of the nodes.
 use Rattle.std.proofs.Common.{◌≡◌, ◌≤◌, ◌⊎◌, inl, inr, ℕ, suc, List, [], ◌∷◌, ◌++◌, length, refl, sym, ap, subst, ◌∙◌, append_assoc, append-nil, true, false, ◌==◌, arith, Option, Some, Result, Ok, Err}
 use Rattle.std.specs.List.{range_with_len}
-use Rattle.std.proofs.lemmas.Bool.{le-ltb, lt-ltb, eqb-true}
+use Rattle.std.proofs.lemmas.Bool.{le-ltb, lt-ltb}
 use Rattle.std.specs.Io.KnownBytes.{Appends, Keeps, IsAtEnd, Consumes}
 use Rattle.dx_types.specs.declared.Genesis.{Genesis}
 use Rattle.dx_types.specs.declared.status.Status.{Status}
@@ -21,9 +21,8 @@ use Rattle.dx_cluster.specs.World.{World, opened, begun_all, Stands, KeepsRows, 
 use Rattle.dx_app.specs.declared.lines.Cut.TheVariants.{Line, Broken, End}
 use Rattle.dx_app.specs.Lines.{newline, longest_line, has_newline, cut, AreBroken, rest_of, CutsLine}
 use Rattle.dx_app.specs.Output.{AppendsFront}
-use Rattle.dx_app.specs.Transcript.{Told, told_after, ended, bad_line, or_bad, lines_told, rest_told, genesis_reply, unkept_status, started_told, genesis_told, genesis_in, scenario_told, scenario, lines_alone, transcript}
+use Rattle.dx_app.specs.Transcript.{Told, told_after, ended, bad_line, or_bad, lines_told, rest_told, genesis_reply, unkept_status, started_told, genesis_told, genesis_in, scenario_told, scenario, lines_alone}
 use Rattle.dx_app.specs.Runs.{is_fault, IsInput, Says, AppendsLast, IsRunOf, ExecutesLines, Executes, IsStarting, KeepsLines, Holds, GoesOn, EndsAtLine, EndsUnserved, OpensTo}
-use Rattle.dx_app.specs.Causes.{IsTaken}
 use Rattle.dx_app.proofs.Newlines.{cut_line}
 use Rattle.dx_app.proofs.Outputs.{appends_nothing, keeps_front, nothing_front, front_more, rest_is_input, read_is_input}
 use Rattle.dx_app.proofs.Kept.{unserved_last, alone_is}
@@ -179,23 +178,3 @@ module _ (rows : Rows) (first : ℕ × Genesis) (h1 : List ℕ) (l0 l1 w0 w1 : O
       wrote = a;
       told = λ rest. sym (first_told rest);
     }
-
--- any word is refused
-pub refused : {A : Type 0} (words : List A) (rows : Rows) (left w0 w1 : Option (List ℕ)) (k : Option Rows) (s : Status) → (length words == 0) ≡ false → k ≡ Some rows → ((r : Rows) → Says w0 w1 (Some r) (ended ends.Usage r) s)
-    → IsRunOf (transcript words rows) left w0 w1 k s
-refused [] rows left w0 w1 k s h e a = absurd (cc)
-refused (word ∷ more) rows left w0 w1 k s h e a = record { input = rest_of left; is = rest_is_input left; said = says_kept w0 w1 k rows _ s e (a rows) }
-
--- no word is one word or more
-pub not_taken : {A : Type 0} (words : List A) → (length words == 0) ≡ false → IsTaken words → ⊥
-not_taken [] h taken = cc
-not_taken (word ∷ more) h taken = cc
-
-pub are_taken : {A : Type 0} (words : List A) → (length words == 0) ≡ true → IsTaken words
-are_taken [] h = refl
-are_taken (word ∷ more) h = let no : suc (length more) ≡ 0 = eqb-true (suc (length more)) 0 h in absurd (omega (arith, no))
-
--- no word asks for the scenario
-pub taken_run : {A : Type 0} (words : List A) (rows : Rows) (left w0 w1 : Option (List ℕ)) (k : Option Rows) (s : Status) → (length words == 0) ≡ true → IsRunOf (scenario rows) left w0 w1 k s → IsRunOf (transcript words rows) left w0 w1 k s
-taken_run [] rows left w0 w1 k s h r = r
-taken_run (word ∷ more) rows left w0 w1 k s h r = let no : word ∷ more ≡ [] = are_taken (word ∷ more) h in absurd (cc)

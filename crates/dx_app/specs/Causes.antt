@@ -1,11 +1,15 @@
 -- When each status comes: what is wrong in the lines of an input, and how a run ends for it.
-use Rattle.std.specs.Prelude.{◌≡◌, ℕ, ◌-◌, ◌<◌, ◌≤◌, ◌==◌, ◌⊎◌, nat_lt, if◌then◌else◌, IsTrue, List, [], ◌∷◌, ◌++◌, map, length, take, slice_get, All, count_by, Option, Some, None, IsNone, Result, Ok, Err, IsOk}
+use Rattle.std.specs.Prelude.{◌≡◌, ℕ, ◌-◌, ◌<◌, ◌≤◌, ◌==◌, ◌⊎◌, nat_lt, if◌then◌else◌, IsTrue, List, [], ◌∷◌, ◌++◌, map, length, take, slice_get, All, count_by, Option, Some, None, IsNone, option_map, Result, Ok, Err, IsOk}
 use Rattle.dx_types.specs.declared.Genesis.{Genesis}
 use Rattle.dx_types.specs.declared.status.Status.{Status}
 use Rattle.dx_types.specs.declared.status.Status.TheVariants.{Done, NoMemory}
 use Rattle.dx_io.specs.Rows.{Rows}
 use Rattle.dx_codec.specs.Genesis.{digest_of}
 use Rattle.dx_history.specs.Chains.{Unkept, BadAt, OtherGenesis}
+use Rattle.dx_words.specs.declared.words.Job.{Job}
+use Rattle.dx_words.specs.declared.words.Job.TheVariants.{Replay, SelfRun, Generate}
+use Rattle.dx_words.specs.declared.words.Words.{Words}
+use Rattle.dx_words.specs.Asked.{asked}
 use Rattle.dx_scenario.specs.Genesis.{genesis_of}
 use Rattle.dx_scenario.specs.Events.{event_of}
 use Rattle.dx_cluster.specs.World.{opened}
@@ -91,9 +95,25 @@ pub record IsTooLong (rows : Rows) (input : List ℕ) : Type 0 where
   pub before : All IsNone (take line_limit (faults input))
   pub started : IsStarted rows input
 
--- the words are taken: no word is yet
-abbrev pub IsTaken : {A : Type 0} → List A → Type 0
-IsTaken words = words ≡ []
+-- the job that words ask for, if they are taken
+abbrev pub job_asked : Option Words → Option Job
+job_asked asked = option_map (λ w. w.job) asked
+
+-- it is the replay of the input
+abbrev pub IsReplay : Option Words → Type 0
+IsReplay asked = job_asked asked ≡ Some Replay
+
+-- it is a generated scenario, or the run of one
+abbrev pub IsOwnRun : Option Words → Type 0
+IsOwnRun asked = (job_asked asked ≡ Some SelfRun) ⊎ (job_asked asked ≡ Some Generate)
+
+-- the words ask for the replay of the input
+abbrev pub AskReplay : List (List ℕ) → Type 0
+AskReplay words = IsReplay (asked words)
+
+-- the words ask for a generated scenario, for its run, or for the replay of a good one
+abbrev pub AskGoodRun : List (List ℕ) → Rows → List ℕ → Type 0
+AskGoodRun words rows input = IsOwnRun (asked words) ⊎ (AskReplay words × IsGoodScenario rows input)
 
 -- the source had left an input of a kind; where it does not tell what it had left, it may have been one
 abbrev pub Had : Option (List ℕ) → (List ℕ → Type 0) → Type 0

@@ -6,3 +6,4 @@ pub mod Causes
 pub mod Prompt
 pub mod Laws
 pub mod Counts
+pub mod OwnRuns

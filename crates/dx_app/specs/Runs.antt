@@ -6,6 +6,8 @@ use Rattle.dx_types.specs.declared.Genesis.{Genesis}
 use Rattle.dx_types.specs.declared.status.Status.{Status}
 use Rattle.dx_types.specs.declared.status.Status.TheVariants.{Done, BadLine, Usage, KeptBad, KeptOther, Long, ReadFault, WriteFault, KeepFault, NoMemory}
 use Rattle.dx_io.specs.Rows.{Rows}
+use Rattle.dx_words.specs.declared.words.WordsFault.{WordsFault}
+use Rattle.dx_words.specs.declared.words.WordsFault.TheVariants as asking
 use Rattle.dx_scenario.specs.declared.fault.LineFault.{LineFault}
 use Rattle.dx_scenario.specs.declared.fault.LineFault.TheVariants as faults
 use Rattle.dx_print.specs.Statuses.{last_line}
@@ -143,6 +145,11 @@ EndsUnserved written_before written (starts.KeptBad node height) status = (rows 
 EndsUnserved written_before written (starts.KeptOther node theirs ours) status = (rows : Rows) → Says written_before written (Some rows) (ended (KeptOther node theirs ours) rows) status
 EndsUnserved written_before written starts.KeepFault status = (status ≡ KeepFault) × Keeps written_before written
 EndsUnserved written_before written starts.NoMemory status = (status ≡ NoMemory) × Keeps written_before written
+
+-- how words that are not read end a run
+abbrev pub EndsUnasked : Option (List ℕ) → Option (List ℕ) → WordsFault → Status → Type 0
+EndsUnasked written_before written asking.Usage status = (rows : Rows) → Says written_before written (Some rows) (ended Usage rows) status
+EndsUnasked written_before written asking.NoMemory status = (status ≡ NoMemory) × Keeps written_before written
 
 -- how a failed read ends a run
 abbrev pub EndsReading : ReadError → Status → Type 0

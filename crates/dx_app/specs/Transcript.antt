@@ -1,6 +1,8 @@
 -- What the program writes and keeps for its words and its input, and how it ends.
-use Rattle.std.specs.Prelude.{ℕ, suc, nat_lt, if◌then◌else◌, List, [], ◌∷◌, ◌++◌, length, Result, Ok, Err}
-use Rattle.std.specs.List.{range_with_len}
+use Rattle.std.specs.Prelude.{ℕ, suc, nat_lt, if◌then◌else◌, List, [], ◌∷◌, ◌++◌, length, Option, Some, None, Result, Ok, Err}
+use Rattle.std.specs.FinMap as map
+use Rattle.std.specs.List.{concat, range_with_len}
+use Rattle.sha2.specs.Sha256.{sha256}
 use Rattle.dx_types.specs.declared.Genesis.{Genesis}
 use Rattle.dx_types.specs.declared.status.Status.{Status}
 use Rattle.dx_types.specs.declared.status.Status.TheVariants.{Done, BadLine, Usage, KeptBad, KeptOther, Long}
@@ -9,6 +11,12 @@ use Rattle.dx_codec.specs.Genesis.{digest_of}
 use Rattle.dx_history.specs.Chains.{Unkept, BadAt, OtherGenesis}
 use Rattle.dx_scenario.specs.Genesis.{genesis_of}
 use Rattle.dx_scenario.specs.Events.{event_of}
+use Rattle.dx_gen.specs.Texts.{scenario_lines}
+use Rattle.dx_words.specs.declared.words.Job.{Job}
+use Rattle.dx_words.specs.declared.words.Job.TheVariants.{Replay, SelfRun, Generate}
+use Rattle.dx_words.specs.declared.words.Words.{Words}
+use Rattle.dx_words.specs.Asked.{asked}
+use Rattle.dx_streams.specs.Summaries.{summary_text}
 use Rattle.dx_print.specs.declared.words.Word.TheVariants as words
 use Rattle.dx_print.specs.declared.replies.Reply.{Reply}
 use Rattle.dx_print.specs.Replies.{reply_line}
@@ -106,7 +114,37 @@ abbrev pub lines_alone : Rows → List ℕ → Told
 lines_alone rows [] = ended Done rows
 lines_alone rows (b ∷ bytes) = scenario rows (b ∷ bytes)
 
--- what a run with these words writes for an input over kept rows, its status, and what is kept then: any word is refused
-abbrev pub transcript : {A : Type 0} → List A → Rows → List ℕ → Told
-transcript [] rows input = scenario rows input
-transcript (word ∷ more) rows input = ended Usage rows
+-- the bytes of a generated scenario
+abbrev pub generated : ℕ → ℕ → List ℕ
+generated seed events = concat (scenario_lines seed events)
+
+-- a generated scenario is written, and nothing more is kept
+abbrev pub generate_told : ℕ → ℕ → Rows → Told
+generate_told seed events rows = record { bytes = generated seed events; status = Done; rows = rows }
+
+-- the digest of what the run of a generated scenario over no rows writes
+unfoldable pub run_digest : ℕ → ℕ → List ℕ
+run_digest seed events = sha256 (scenario map.empty (generated seed events)).bytes
+
+-- how many lines it has is written, and the digest of its run; nothing more is kept
+abbrev pub self_told : ℕ → ℕ → Rows → Told
+self_told seed events rows = record {
+  bytes = summary_text (length (scenario_lines seed events)) (run_digest seed events);
+  status = Done;
+  rows = rows;
+}
+
+-- what is told of a job with a seed and so many orders
+abbrev pub job_told : Job → ℕ → ℕ → Rows → List ℕ → Told
+job_told Replay seed events rows input = scenario rows input
+job_told SelfRun seed events rows input = self_told seed events rows
+job_told Generate seed events rows input = generate_told seed events rows
+
+-- what is told of what words ask for; words that are not taken end the run
+abbrev pub asked_told : Option Words → Rows → List ℕ → Told
+asked_told None rows input = ended Usage rows
+asked_told (Some w) rows input = job_told w.job w.seed w.events rows input
+
+-- what a run with these words writes for an input over kept rows, its status, and what is kept then
+abbrev pub transcript : List (List ℕ) → Rows → List ℕ → Told
+transcript words = asked_told (asked words)

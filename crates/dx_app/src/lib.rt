@@ -9,8 +9,10 @@
 //! what is not kept; and every committed reply is what the plain fold of the node's committed blocks says.
 //!
 //! It stands on `dx_io` (source, sink and keeper), `dx_scenario` (what a line says), `dx_print` (what is
-//! written) and `dx_cluster` (what an event does to nodes, slots and rows). From below to above: `lines` cuts
-//! the input into lines, `output` writes, `replay` goes over the lines, and `program` has the two calls.
+//! written), `dx_cluster` (what an event does to nodes, slots and rows), `dx_words` (what the words ask for),
+//! and `dx_gen` and `dx_streams` (a generated scenario, its lines as a source, and a sink that hashes). From
+//! below to above: `lines` cuts the input into lines, `output` writes, `replay` goes over the lines, `own_run`
+//! has the two jobs over a generated scenario, and `program` has the two calls.
 //!
 //! In `specs/`, `Transcript` says what is written and kept for words, input and rows, `Causes` when each status
 //! comes, `Prompt` how far a run reads and what it has answered by then, and `Runs` how far a run has come.
@@ -19,6 +21,7 @@
 mod laws;
 mod lines;
 mod output;
+mod own_run;
 mod program;
 mod replay;
 

@@ -1,26 +1,30 @@
-ghost use Rattle.std.specs.Prelude.{◌≡◌, ◌≤◌, ◌⊎◌, ℕ, List, [], ◌++◌, MatchResult, IfOk, IfErr, Some, length};
+ghost use Rattle.std.specs.Prelude.{◌≡◌, ◌≤◌, ◌⊎◌, ℕ, List, [], ◌++◌, MatchResult, IfOk, IfErr, None, Some, length, map, string_bytes};
 ghost use Rattle.std.specs.Io.KnownBytes.{Appends, IsAtEnd};
 ghost use Rattle.dx_io.specs.Causes.{Rose};
 ghost use Rattle.dx_io.specs.Rows.{Rows};
 ghost use Rattle.dx_types.specs.declared.status.Status.TheVariants as ends;
 ghost use Rattle.dx_spec.specs.Genesis.{IsNatFrom, IsGenesis};
 ghost use Rattle.dx_print.specs.Replies.{reply_line};
+ghost use Rattle.dx_words.specs.declared.words.Job.TheVariants as jobs;
+ghost use Rattle.dx_words.specs.Asked.{asked};
 ghost use Rattle.dx_app.specs.Output.{AppendsFront};
 ghost use Rattle.dx_cluster.specs.World.{World, Stands};
-ghost use Rattle.dx_app.specs.Transcript.{ended, genesis_reply, scenario, transcript};
-ghost use Rattle.dx_app.specs.Runs.{Says, AppendsLast, IsRunOf, KeepsLines, OpensTo};
+ghost use Rattle.dx_app.specs.Transcript.{ended, genesis_reply, scenario, asked_told, transcript};
+ghost use Rattle.dx_app.specs.Runs.{Says, AppendsLast, IsRunOf, KeepsLines, OpensTo, EndsUnasked};
 ghost use Rattle.dx_app.specs.Counts.{Caused, CausedByStreams, CausedByWrites};
 ghost use Rattle.dx_app.specs.Prompt.{IsNear, ReadsTo, StopsInLine, RepliesAreOut, ReadsNoFurther};
-ghost use Rattle.dx_app.specs.Causes.{IsTaken, IsGoodScenario, IsFirstBad, IsTooLong, IsKeptBad, IsKeptOther, HadSurely, ComesExactly, IsWhole};
+ghost use Rattle.dx_app.specs.Causes.{AskReplay, AskGoodRun, IsGoodScenario, IsFirstBad, IsTooLong, IsKeptBad, IsKeptOther, HadSurely, ComesExactly, IsWhole};
 
 use crate::lines::{Cut, LineReader};
 use crate::output::write_text;
+use crate::own_run::{generate, self_run};
 use crate::replay::{end_at_line, end_badly, end_reading, end_unserved, replay_lines, write_last};
 use dx_cluster::Cluster;
 use dx_io::{Keeper, Sink, Source};
 use dx_print::{Reply, Word, reply};
 use dx_scenario::read_genesis;
 use dx_types::{Genesis, Status};
+use dx_words::{Job, Words, WordsFault, read_words};
 use std::alloc::Global;
 
 /// Reads the first line, or says how the run ends.
@@ -86,7 +90,7 @@ fn greet<W: Sink>(alloc: Global, sink: &mut W, cluster: &Cluster) -> Result<(), 
 }
 
 /// Answers all lines of a source, as the scenario that they are.
-fn answer_all<S: Source, W: Sink, K: Keeper>(
+pub(crate) fn answer_all<S: Source, W: Sink, K: Keeper>(
     alloc: Global,
     source: &mut S,
     sink: &mut W,
@@ -192,8 +196,8 @@ pub fn replay_all<S: Source, W: Sink, K: Keeper>(
     answer_all(alloc, source, sink, keeper)
 }
 
-/// Refuses the words, and ends the run.
-fn refuse_words<W: Sink>(alloc: Global, sink: &mut W) -> Status
+/// Writes that the words are not taken, and ends the run.
+fn end_usage<W: Sink>(alloc: Global, sink: &mut W) -> Status
     ensures said { (rows : Rows)
         → Says (W.written sink.old) (W.written sink.new) (Some rows) (ended ends.Usage rows) result }
     ensures caused { CausedByWrites (W.faults sink.old) (W.faults sink.new) result }
@@ -205,7 +209,48 @@ fn refuse_words<W: Sink>(alloc: Global, sink: &mut W) -> Status
     }
 }
 
-/// Does what the words ask for. Any word is refused yet.
+/// Ends the run whose words are not read.
+fn end_unasked<W: Sink>(alloc: Global, sink: &mut W, fault: WordsFault) -> Status
+    ensures said { EndsUnasked (W.written sink.old) (W.written sink.new) fault result }
+    ensures caused { CausedByWrites (W.faults sink.old) (W.faults sink.new) result }
+{
+    match fault {
+        WordsFault::Usage => end_usage(alloc, sink),
+        WordsFault::NoMemory => Status::NoMemory,
+    }
+}
+
+/// Does what is asked for.
+fn do_job<S: Source, W: Sink, K: Keeper>(
+    alloc: Global,
+    words: Words,
+    source: &mut S,
+    sink: &mut W,
+    keeper: &mut K,
+) -> Status
+    ensures said { (rows : Rows) → K.rows keeper.old ≡ Some rows
+        → IsRunOf (asked_told (Some words) rows) (S.left source.old)
+        (W.written sink.old) (W.written sink.new) (K.rows keeper.new) result }
+    ensures kept { words.job ≡ jobs.Replay → (rows : Rows) → K.rows keeper.old ≡ Some rows
+        → KeepsLines rows (S.left source.old) (W.written sink.old) (W.written sink.new) (K.rows keeper.new) }
+    ensures keeper_spared { ¬ (words.job ≡ jobs.Replay) → keeper.new ≡ keeper.old }
+    ensures source_spared { ¬ (words.job ≡ jobs.Replay) → source.new ≡ source.old }
+    ensures done { result ≡ ends.Done → words.job ≡ jobs.Replay → IsAtEnd (S.left source.new) }
+    ensures prompt { result ≡ ends.ReadFault → (rows : Rows) → K.rows keeper.old ≡ Some rows
+        → RepliesAreOut rows (S.left source.old) (S.left source.new) (W.written sink.old) (W.written sink.new) }
+    ensures no_further { (rows : Rows) → K.rows keeper.old ≡ Some rows
+        → ReadsNoFurther rows (S.left source.old) (S.left source.new) (W.written sink.old) (W.written sink.new) }
+    ensures caused { Caused (S.faults source.old) (S.faults source.new) (W.faults sink.old) (W.faults sink.new)
+        (K.faults keeper.old) (K.faults keeper.new) result }
+{
+    match words.job {
+        Job::Replay => answer_all(alloc, source, sink, keeper),
+        Job::SelfRun => self_run(alloc, words.seed, words.events, sink),
+        Job::Generate => generate(alloc, words.seed, words.events, sink),
+    }
+}
+
+/// Does what the words ask for.
 fn obey<S: Source, W: Sink, K: Keeper>(
     alloc: Global,
     words: &[String],
@@ -214,12 +259,13 @@ fn obey<S: Source, W: Sink, K: Keeper>(
     keeper: &mut K,
 ) -> Status
     ensures said { (rows : Rows) → K.rows keeper.old ≡ Some rows
-        → IsRunOf (transcript words.now rows) (S.left source.old)
+        → IsRunOf (transcript (map string_bytes words.now) rows) (S.left source.old)
         (W.written sink.old) (W.written sink.new) (K.rows keeper.new) result }
-    ensures kept { IsTaken words.now → (rows : Rows) → K.rows keeper.old ≡ Some rows
+    ensures kept { AskReplay (map string_bytes words.now) → (rows : Rows) → K.rows keeper.old ≡ Some rows
         → KeepsLines rows (S.left source.old) (W.written sink.old) (W.written sink.new) (K.rows keeper.new) }
-    ensures spared { ¬ IsTaken words.now → keeper.new ≡ keeper.old }
-    ensures done { result ≡ ends.Done → IsAtEnd (S.left source.new) }
+    ensures keeper_spared { ¬ AskReplay (map string_bytes words.now) → keeper.new ≡ keeper.old }
+    ensures source_spared { ¬ AskReplay (map string_bytes words.now) → source.new ≡ source.old }
+    ensures done { result ≡ ends.Done → AskReplay (map string_bytes words.now) → IsAtEnd (S.left source.new) }
     ensures prompt { result ≡ ends.ReadFault → (rows : Rows) → K.rows keeper.old ≡ Some rows
         → RepliesAreOut rows (S.left source.old) (S.left source.new) (W.written sink.old) (W.written sink.new) }
     ensures no_further { (rows : Rows) → K.rows keeper.old ≡ Some rows
@@ -227,14 +273,17 @@ fn obey<S: Source, W: Sink, K: Keeper>(
     ensures caused { Caused (S.faults source.old) (S.faults source.new) (W.faults sink.old) (W.faults sink.new)
         (K.faults keeper.old) (K.faults keeper.new) result }
 {
-    if !words.is_empty() {
-        return refuse_words(alloc, sink);
+    match read_words(alloc, words) {
+        Ok(asked) => do_job(alloc, asked, source, sink, keeper),
+        Err(fault) => end_unasked(alloc, sink, fault),
     }
-    answer_all(alloc, source, sink, keeper)
 }
 
-/// Does all that the program does: `words` are the program's words without its name. Any word is
-/// refused yet; without one the lines of the source are answered, as by [`replay_all`].
+/// Does all that the program does: `words` are the program's words without its name ("Words" in docs/FORMAT.md). The
+/// job `replay`, which is also that of no words, answers the lines of the source, as [`replay_all`] does. The job
+/// `selfrun` runs a generated scenario over a keeper of its own, and writes how many lines it has and the digest of
+/// what that run writes; the job `generate` writes the scenario. Both read nothing of the source, do not call the
+/// keeper, and end with `Done`, unless a write fails or there is no memory.
 pub fn run<S: Source, W: Sink, K: Keeper>(
     alloc: Global,
     words: &[String],
@@ -245,15 +294,16 @@ pub fn run<S: Source, W: Sink, K: Keeper>(
     // What is written and kept, and the status, are those of the words, of what the source had left and of the rows that
     // the keeper had; at a fault of the outside or for want of memory, a front of it is written.
     ensures said { (rows : Rows) → K.rows keeper.old ≡ Some rows
-        → IsRunOf (transcript words.now rows) (S.left source.old)
+        → IsRunOf (transcript (map string_bytes words.now) rows) (S.left source.old)
         (W.written sink.old) (W.written sink.new) (K.rows keeper.new) result }
-    ensures done { result ≡ ends.Done → IsAtEnd (S.left source.new) }
+    ensures done { result ≡ ends.Done → AskReplay (map string_bytes words.now) → IsAtEnd (S.left source.new) }
 
-    // Whatever ends the run, just what the executed lines put is kept, and no reply is written to what is not kept. For
-    // words that are not taken the keeper is not called.
-    ensures kept { IsTaken words.now → (rows : Rows) → K.rows keeper.old ≡ Some rows
+    // Whatever ends the run, just what the executed lines put is kept, and no reply is written to what is not kept.
+    // Where the words do not ask for the replay of the input, keeper and source are not called.
+    ensures kept { AskReplay (map string_bytes words.now) → (rows : Rows) → K.rows keeper.old ≡ Some rows
         → KeepsLines rows (S.left source.old) (W.written sink.old) (W.written sink.new) (K.rows keeper.new) }
-    ensures spared { ¬ IsTaken words.now → keeper.new ≡ keeper.old }
+    ensures keeper_spared { ¬ AskReplay (map string_bytes words.now) → keeper.new ≡ keeper.old }
+    ensures source_spared { ¬ AskReplay (map string_bytes words.now) → source.new ≡ source.old }
 
     // Each line is answered before the next one is read: where a read fails, just the replies to all lines that are whole
     // in what was taken from the source are written; and whatever ends the run, the source is read no further than
@@ -265,32 +315,34 @@ pub fn run<S: Source, W: Sink, K: Keeper>(
 
     // Each status comes exactly by its cause. Of several faults of rows and lines the first ends the run.
     ensures good { (rows : Rows) → K.rows keeper.old ≡ Some rows
-        → ComesExactly (S.left source.old) result ends.Done (λ input. IsTaken words.now × IsGoodScenario rows input) }
+        → ComesExactly (S.left source.old) result ends.Done (AskGoodRun (map string_bytes words.now) rows) }
     ensures bad_line { (rows : Rows) → K.rows keeper.old ≡ Some rows → (line field : ℕ)
         → ComesExactly (S.left source.old) result (ends.BadLine line field)
-        (λ input. IsTaken words.now × IsFirstBad rows input line field) }
+        (λ input. AskReplay (map string_bytes words.now) × IsFirstBad rows input line field) }
     ensures long { (rows : Rows) → K.rows keeper.old ≡ Some rows
-        → ComesExactly (S.left source.old) result ends.Long (λ input. IsTaken words.now × IsTooLong rows input) }
+        → ComesExactly (S.left source.old) result ends.Long
+        (λ input. AskReplay (map string_bytes words.now) × IsTooLong rows input) }
     ensures kept_bad { (rows : Rows) → K.rows keeper.old ≡ Some rows → (node height : ℕ)
         → ComesExactly (S.left source.old) result (ends.KeptBad node height)
-        (λ input. IsTaken words.now × IsKeptBad rows input node height) }
+        (λ input. AskReplay (map string_bytes words.now) × IsKeptBad rows input node height) }
     ensures kept_other { (rows : Rows) → K.rows keeper.old ≡ Some rows → (node : ℕ) (theirs ours : List ℕ)
         → ComesExactly (S.left source.old) result (ends.KeptOther node theirs ours)
-        (λ input. IsTaken words.now × IsKeptOther rows input node theirs ours) }
+        (λ input. AskReplay (map string_bytes words.now) × IsKeptOther rows input node theirs ours) }
     ensures usage { (rows : Rows) → K.rows keeper.old ≡ Some rows
-        → ComesExactly (S.left source.old) result ends.Usage (λ input. ¬ IsTaken words.now) }
+        → ComesExactly (S.left source.old) result ends.Usage (λ _. asked (map string_bytes words.now) ≡ None) }
 
     // A fault of the outside is an answer only where the count of that object's faults rose.
     ensures read_fault { result ≡ ends.ReadFault → Rose (S.faults source.old) (S.faults source.new) }
     ensures write_fault { result ≡ ends.WriteFault → Rose (W.faults sink.old) (W.faults sink.new) }
     ensures keep_fault { result ≡ ends.KeepFault → Rose (K.faults keeper.old) (K.faults keeper.new) }
 
-    // A good scenario is answered whole where no count rises, unless memory is wanting.
-    ensures complete { IsTaken words.now → (rows : Rows) → K.rows keeper.old ≡ Some rows
-        → HadSurely (S.left source.old) (IsGoodScenario rows)
+    // A good scenario is answered whole, and a generated one is run or written whole, where no count rises, unless
+    // memory is wanting.
+    ensures complete { (rows : Rows) → K.rows keeper.old ≡ Some rows
+        → HadSurely (S.left source.old) (AskGoodRun (map string_bytes words.now) rows)
         → ¬ Rose (S.faults source.old) (S.faults source.new) → ¬ Rose (W.faults sink.old) (W.faults sink.new)
         → ¬ Rose (K.faults keeper.old) (K.faults keeper.new)
-        → IsWhole (transcript words.now rows) (S.left source.old) (W.written sink.old) (W.written sink.new)
+        → IsWhole (transcript (map string_bytes words.now) rows) (S.left source.old) (W.written sink.old) (W.written sink.new)
         (K.rows keeper.new) result }
 {
     obey(alloc, words, source, sink, keeper)

@@ -1,24 +1,29 @@
-use Rattle.dx_app.specs.Transcript.{ended}
-use Rattle.dx_types.specs.declared.status.Status.TheVariants as ends
-use Rattle.std.proofs.Common.{Some, sym, ◌∙◌}
-use Rattle.dx_app.proofs.Opening.{refused, not_taken, are_taken, taken_run}
-use Rattle.dx_app.proofs.Prompt.{says_some, unread}
+use Rattle.std.proofs.Common.{inr}
+use Rattle.dx_app.proofs.Asked.{job_is, asked_job, unasked_run, unasked_last, asked_run}
+use Rattle.dx_app.proofs.Kept.{executes_none}
+use Rattle.dx_app.proofs.Prompt.{last_some, unread}
 use Rattle.dx_app.proofs.program.obey.Goals as goal
 
-pub returns-then-not-is_empty-clause-said : goal.returns-then-not-is_empty-clause-said
-returns-then-not-is_empty-clause-said g c = λ rows told. refused c.args.words.now rows _ _ _ _ c.refuse_words.result (sym c.is_empty.ensures ∙ c.if-not-is_empty.true) told c.refuse_words.ensures.said
+pub returns-in-Err-clause-said : goal.returns-in-Err-clause-said
+returns-in-Err-clause-said g c = λ rows told. unasked_run rows _ _ _ _ c.end_unasked.result _ c.in-Err.fault c.in-Err.ensures.usage told c.end_unasked.ensures.said
 
-pub returns-then-not-is_empty-clause-kept : goal.returns-then-not-is_empty-clause-kept
-returns-then-not-is_empty-clause-kept g c = λ taken. absurd (not_taken c.args.words.now (sym c.is_empty.ensures ∙ c.if-not-is_empty.true) taken)
+pub returns-in-Err-clause-kept : goal.returns-in-Err-clause-kept
+returns-in-Err-clause-kept g c = λ ask rows told. inr (executes_none rows _ _ _ _ told (unasked_last _ _ rows c.in-Err.fault c.end_unasked.result c.end_unasked.ensures.said))
 
-pub returns-then-not-is_empty-clause-no_further : goal.returns-then-not-is_empty-clause-no_further
-returns-then-not-is_empty-clause-no_further g c = λ rows told. unread rows _ _ _ (says_some _ _ (Some rows) (ended ends.Usage rows) c.refuse_words.result (c.refuse_words.ensures.said rows))
+pub returns-in-Err-clause-no_further : goal.returns-in-Err-clause-no_further
+returns-in-Err-clause-no_further g c = λ rows told. unread rows _ _ _ (last_some _ _ (unasked_last _ _ rows c.in-Err.fault c.end_unasked.result c.end_unasked.ensures.said))
 
-pub returns-clause-said : goal.returns-clause-said
-returns-clause-said g c = λ rows told. taken_run c.args.words.now rows _ _ _ _ c.answer_all.result (sym c.is_empty.ensures ∙ c.if-not-is_empty.false) (c.answer_all.ensures.said rows told)
+pub returns-in-Ok-clause-said : goal.returns-in-Ok-clause-said
+returns-in-Ok-clause-said g c = λ rows told. asked_run rows _ _ _ _ c.do_job.result _ c.in-Ok.asked c.in-Ok.ensures.read (c.do_job.ensures.said rows told)
 
-pub returns-clause-kept : goal.returns-clause-kept
-returns-clause-kept g c = λ taken. c.answer_all.ensures.kept
+pub returns-in-Ok-clause-kept : goal.returns-in-Ok-clause-kept
+returns-in-Ok-clause-kept g c = λ ask. c.do_job.ensures.kept (job_is _ c.in-Ok.asked _ c.in-Ok.ensures.read ask)
 
-pub returns-clause-spared : goal.returns-clause-spared
-returns-clause-spared g c = λ untaken. absurd (untaken (are_taken c.args.words.now (sym c.is_empty.ensures ∙ c.if-not-is_empty.false)))
+pub returns-in-Ok-clause-keeper_spared : goal.returns-in-Ok-clause-keeper_spared
+returns-in-Ok-clause-keeper_spared g c = λ other. c.do_job.ensures.keeper_spared (λ e. other (asked_job _ c.in-Ok.asked _ c.in-Ok.ensures.read e))
+
+pub returns-in-Ok-clause-source_spared : goal.returns-in-Ok-clause-source_spared
+returns-in-Ok-clause-source_spared g c = λ other. c.do_job.ensures.source_spared (λ e. other (asked_job _ c.in-Ok.asked _ c.in-Ok.ensures.read e))
+
+pub returns-in-Ok-clause-done : goal.returns-in-Ok-clause-done
+returns-in-Ok-clause-done g c = λ e ask. c.do_job.ensures.done e (job_is _ c.in-Ok.asked _ c.in-Ok.ensures.read ask)
