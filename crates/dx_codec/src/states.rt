@@ -29,7 +29,8 @@ use std::alloc::Global;
 const STATE_FORM: u8 = 1;
 
 /// The bytes of a state, behind the digest of its own genesis. The names of a state that is written fit, as
-/// [`decode_state`] wants them to. `NoMemory` where there is none for the bytes.
+/// [`decode_state`] wants them to. `NoMemory` where there is none for the bytes, or where a list has more members
+/// than 4 bytes count.
 #[tactic(auto, unfolding(crate::specs::States::state_bytes))]
 pub fn encode_state(alloc: Global, s: &PlainState) -> Result<List<u8>, NoMemory>
     ensures bytes { IfOk result (λ bytes. bytes ≡ state_bytes s.now) }
