@@ -6,8 +6,6 @@ use Rattle.dx_types.specs.declared.SubaccountId.{SubaccountId}
 use Rattle.dx_types.specs.declared.OrderId.{OrderId}
 use Rattle.dx_types.specs.declared.Block.{Block}
 use Rattle.dx_types.specs.declared.Bad.{Bad}
-use Rattle.sha2.specs.Sha256.{sha256}
-use Rattle.dx_codec.specs.States.{state_bytes}
 use Rattle.dx_spec.specs.Step.{◌>>=◌}
 use Rattle.dx_spec.specs.State.{State, filled_of}
 use Rattle.dx_spec.specs.Blocks.{block_step}
@@ -82,7 +80,7 @@ of_audit : IsOfState tell_audit
 of_audit = λ p q e. ap (λ s. answers.Audit (audit s)) e
 
 of_digest : IsOfState tell_digest
-of_digest = λ p q e. ap (λ (s : State). answers.Digest s.clock.height (sha256 (state_bytes s))) e
+of_digest = λ p q e. cc
 
 -- a restart tells the height of the committed state
 restart_says : (p : Node) → IsFold p → (restart_node p).1 ≡ answers.Done (Some (height_of p))

@@ -32,6 +32,7 @@ act_keeps w node act = node_keeps w (slice_get w.nodes node) node act
 pub step_keeps : (w : World) (e : Event) → length (step w e).0.nodes ≡ length w.nodes
 step_keeps w e = elim e as (λ e. length (step w e).0.nodes ≡ length w.nodes) [
   | events.Handed slot block ↦ refl
+  | events.Show slot ↦ refl
   | events.Propose node slot time ↦ ap length (propose_nodes w (slice_get w.nodes node) slot time)
   | _ ↦ search act_keeps
 ]
