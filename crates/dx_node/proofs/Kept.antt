@@ -64,6 +64,9 @@ pub same_markets : (h : Held) → IsKept h → length h.speculative.markets ≡ 
 same_markets h k =
     sym (length-map h.speculative.markets (λ (m : MarketInfo). m.params)) ∙ ap (λ ps. length ps) (same_base h k).params ∙ length-map h.committed.markets (λ (m : MarketInfo). m.params)
 
+pub same_genesis : (h : Held) → IsKept h → h.speculative.genesis ≡ h.committed.genesis
+same_genesis h k = (same_base h k).genesis
+
 pub same_listed : (h : Held) → IsKept h → length h.speculative.genesis.params.markets ≡ length h.committed.genesis.params.markets
 same_listed h k = ap (λ (g : Genesis). length g.params.markets) (same_base h k).genesis
 

@@ -13,3 +13,5 @@ pub mod Pooled
 pub mod Ending
 pub mod Voting
 pub mod Stays
+pub mod Started
+pub mod Restarted

@@ -38,12 +38,12 @@ use Rattle.dx_speculation.proofs.Replayable.{committing_makes_replayable, poolin
 use Rattle.dx_speculation.proofs.Nodes.{nothing_queued as no_ops, fold_more}
 use Rattle.dx_speculation.proofs.Proposals.{proposal_is_good}
 use Rattle.dx_node.specs.declared.refusal.Refusal.{Refusal as Told}
+use Rattle.dx_node.specs.declared.faults.CommitFault.{CommitFault}
+use Rattle.dx_node.specs.declared.faults.CommitFault.TheVariants as commits
 use Rattle.dx_node.specs.Fed.{Prices}
 use Rattle.dx_node.specs.Held.{Cancels, Held, held, IsKept}
 use Rattle.dx_node.specs.Pool.{add_at}
 use Rattle.dx_node.specs.Standing.{held_of, StandsFor, LeadsTo, Gives}
-use Rattle.dx_node.specs.declared.faults.CommitFault.{CommitFault}
-use Rattle.dx_node.specs.declared.faults.CommitFault.TheVariants as commits
 use Rattle.dx_node.specs.Faults.{IsRefused}
 use Rattle.dx_node.specs.Restarts.{CommitRefused}
 
@@ -107,12 +107,12 @@ stands_by n p f g s num q b c m fd a =
       };
     }
 
-genesis_same : (g : Genesis) → (genesis_state g).genesis ≡ g
+pub genesis_same : (g : Genesis) → (genesis_state g).genesis ≡ g
 unfolding genesis_state
 genesis_same g = refl
 
 -- an empty queue leads nowhere
-empty_leads : (s t : State) (height : ℕ) (queue : List Op) → queue ≡ [] → t ≡ s → ops_step s height queue ≡ Ok t
+pub empty_leads : (s t : State) (height : ℕ) (queue : List Op) → queue ≡ [] → t ≡ s → ops_step s height queue ≡ Ok t
 empty_leads s t height queue q e = ap (ops_step s height) q ∙ no_ops s height ∙ ap Ok (sym e)
 
 -- a node with no blocks
@@ -250,10 +250,10 @@ kept_committed h n b rs k a settled =
     settled (subst IsSteady (sym a.speculative) (IsSteady-IsSettled n.committed settled)) (subst (λ (os : List Order). length os ≤ most_orders) (sym a.book) few)
 
 -- a block that is refused is not
-pub committed_bad : (g h : Held) (p : Node) (b : Block) (fault : CommitFault) → g ≡ h → CommitRefused (block_step g.committed b) fault → StandsFor h p → CommitRefused (commit p b) fault
-committed_bad g h p b commits.NoMemory v e st = tt
-committed_bad g h p b commits.KeepFault v e st = tt
-committed_bad g h p b (commits.Bad part) v e st = commit_is g p b (Err part) (stand_back g h p v st) e
+pub commit_refused : (g h : Held) (p : Node) (b : Block) (fault : CommitFault) → g ≡ h → CommitRefused (block_step g.committed b) fault → StandsFor h p → CommitRefused (commit p b) fault
+commit_refused g h p b (commits.Bad part) v e st = commit_is g p b (Err part) (stand_back g h p v st) e
+commit_refused g h p b commits.KeepFault v e st = tt
+commit_refused g h p b commits.NoMemory v e st = tt
 
 -- a message waits
 pooled_is : (p : Node) (m : Msg) → pooled p m ≡ (add_at p.pool m >>= λ ms. Ok (record p { pool = ms }))

@@ -10,3 +10,4 @@ pub mod Short
 pub mod Faults
 pub mod Laws
 pub mod Restarts
+pub mod Starts

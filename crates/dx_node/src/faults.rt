@@ -367,3 +367,26 @@ pub enum RestartFault {
     #[error("out of memory")]
     NoMemory,
 }
+
+impl From<NoMemory> for RestartFault {
+    ghost use Rattle.dx_node.specs.declared.faults.RestartFault.TheVariants.{NoMemory as MemoryFault};
+
+    ghost from_gives = { λ _ fault. fault ≡ MemoryFault };
+
+    fn from(_refused: NoMemory) -> RestartFault {
+        RestartFault::NoMemory
+    }
+}
+
+impl From<KeepError> for RestartFault {
+    ghost use Rattle.dx_node.specs.Faults.{restart_fault};
+
+    ghost from_gives = { λ failed fault. fault ≡ restart_fault failed };
+
+    fn from(failed: KeepError) -> RestartFault {
+        match failed {
+            KeepError::Failed => RestartFault::KeepFault,
+            KeepError::NoMemory => RestartFault::NoMemory,
+        }
+    }
+}

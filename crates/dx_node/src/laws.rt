@@ -1,6 +1,6 @@
 //! The laws on what a node does.
 
-ghost use Rattle.dx_node.specs.Laws.{CommittedStays, CancellingStays, PoolingStays, ProposalHasPool, CommittedLeavePool, ListedRestNot};
+ghost use Rattle.dx_node.specs.Laws.{CommittedStays, CancellingStays, PoolingStays, ProposalHasPool, CommittedLeavePool, ListedRestNot, RestingStand};
 
 /// Whatever a node places and is fed, the state after its blocks stays as it was: only a commit adds a block.
 pub fn committed_stays()
@@ -31,4 +31,9 @@ pub fn committed_leave_pool()
 /// After a commit no order rests whose id is on the list to place again, until it is placed.
 pub fn listed_rest_not()
     ensures { ListedRestNot }
+{}
+
+/// A stateful order that rests at a faithful node stands in the state after its blocks and its queue as it is.
+pub fn resting_stand()
+    ensures { RestingStand }
 {}

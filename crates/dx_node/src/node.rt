@@ -38,11 +38,13 @@ use crate::placing::{place_again, place_at};
 use crate::pool::add;
 use crate::proposing::check_time;
 use crate::reads::{amount_of, best_of, has_market};
+use crate::restarting::{Start, start_anew};
 use crate::suspended::{check_committed, commit_block};
 use crate::sweeping::{Swept, sweep_at};
 use crate::votes::votes;
 use crate::waiting::Waiting;
 use dx_book::Book;
+use dx_codec::encode_state;
 use dx_io::Keeper;
 use dx_ledger::Ledger;
 use dx_queue::Queue;
@@ -52,6 +54,7 @@ use dx_state::PlainState;
 use dx_trade::filled_of;
 use dx_types::{Account, Audit, Block, Genesis, List, Msg, NoMemory, Order, OrderId, SubaccountId};
 use dx_work::Work;
+use sha2::{Digest, Sha256};
 use std::alloc::Global;
 use std::marker::Model;
 
@@ -210,11 +213,7 @@ impl Node {
     ///
     /// `Bad` with the block's first bad part, exactly as [`Node::check`] has it; `KeepFault` only where the keeper's
     /// count of faults rose; `NoMemory` where there is none. The node and the rows are then as before.
-    pub fn commit<K: Keeper>(
-        &mut self,
-        block: &Block,
-        keeper: &mut K,
-    ) -> Result<List<u32>, CommitFault>
+    pub fn commit<K: Keeper>(&mut self, block: &Block, keeper: &mut K) -> Result<List<u32>, CommitFault>
         requires idle { self.old.again ≡ [] }
         ensures ok { IfOk result (λ results. (p : PlainNode) → StandsFor self.old p
             → Gives self.new results (committed_with p block.now)) }
@@ -273,7 +272,17 @@ impl Node {
         ensures later { K.faults keeper.old ≤ K.faults keeper.new }
         ensures failed { IsErrOf result RestartFault.KeepFault → Rose (K.faults keeper.old) (K.faults keeper.new) }
     {
-        Err(RestartFault::NoMemory)
+        let alloc = self.allocator();
+        let Start { work, again } = start_anew(alloc, keeper, self.number, self.work.genesis())?;
+        let height = work.committed_clock().height;
+        self.work = work;
+        self.queue = Queue::new(alloc);
+        self.book = Book::new(alloc);
+        self.cancels = Cancels::new(alloc);
+        self.pool = List::new(alloc);
+        self.feed = Feed::new();
+        self.again = Waiting::of(again);
+        Ok(height)
     }
 
     /// The SHA-256 of the bytes of the state after the blocks ("Bytes" in docs/FORMAT.md). `NoMemory` where there is
@@ -281,7 +290,9 @@ impl Node {
     pub fn digest(&self) -> Result<[u8; 32], NoMemory>
         ensures { IfOk result (λ digest. (p : PlainNode) → StandsFor self.now p → digest ≡ committed_digest p) }
     {
-        Err(NoMemory)
+        let state = self.work.committed_copy()?;
+        let bytes = encode_state(self.allocator(), &state)?;
+        Ok(Sha256::digest(bytes.as_slice()))
     }
 
     /// Places the first order of the list again, and tells whether there was one ("After a commit" in docs/RULES.md).
@@ -443,7 +454,13 @@ impl Node {
         ensures same { OnErr result (self.new ≡ self.old) }
     {
         let alloc = self.allocator();
-        let swept = sweep_at(alloc, &mut self.work, &mut self.queue, &mut self.book, who)?;
+        let swept = sweep_at(
+            alloc,
+            &mut self.work,
+            &mut self.queue,
+            &mut self.book,
+            who,
+        )?;
         Ok(swept)
     }
 

@@ -1,0 +1,34 @@
+use Rattle.std.proofs.Common.{rules, ◌≡◌, ◌-◌, suc, Some, IfErr}
+use Rattle.dx_types.specs.declared.Genesis.{Genesis}
+use Rattle.dx_io.specs.Rows.{Rows}
+use Rattle.dx_history.specs.Chains.{kept_from}
+use Rattle.dx_node.specs.Starts.{IsUnkept}
+use Rattle.dx_node.proofs.Started.{way_next, way_last, way_refused, adds_before, read_on}
+use Rattle.dx_node.proofs.restarting.fold_rows.Goals as goal
+
+pub returns-in_err-next_block-clause-refused : goal.returns-in_err-next_block-clause-refused
+returns-in_err-next_block-clause-refused g c =
+    let i = c.loop-height.invariant in
+    let first = g.K.Keeper.rows c.args.keeper.now in
+    λ rows e of.
+    let h : IfErr c.next_block.result (IsUnkept of (kept_from c.args.s.now rows c.args.number 1 (c.args.count - 1))) =
+    way_refused first (g.K.Keeper.rows c.loop-height.keeper) c.args.number 1 (c.args.count - 1) c.args.s.now c.loop-height.height c.args.count c.loop-height.s of
+    c.next_block.result c.loop-height-test.true i.read.same i.way c.next_block.ensures.refused rows e in
+    search rules
+
+pub loop-height-preserved : goal.loop-height-preserved
+loop-height-preserved g c =
+    let i = c.loop-height.invariant in
+    let a = g.K.Keeper.rows c.args.keeper.now in
+    let b = g.K.Keeper.rows c.loop-height.keeper in
+    let e = c.in_ok-next_block.ensures in
+    record {
+      settled = e.settled;
+      way = way_next a c.args.number 1 (c.args.count - 1) c.args.s.now c.loop-height.height c.args.count c.loop-height.s c.next_block.new.s c.loop-height-test.true i.way
+          (adds_before a b c.args.number c.loop-height.height c.loop-height.s c.next_block.new.s i.read.same e.ok);
+      read = read_on a b (g.K.Keeper.rows c.next_block.new.keeper) (g.K.Keeper.faults c.args.keeper.now) (g.K.Keeper.faults c.loop-height.keeper) (g.K.Keeper.faults c.next_block.new.keeper) _ _ i.read e.read;
+    }
+
+pub returns-clause-ok : goal.returns-clause-ok
+returns-clause-ok g c =
+    way_last (g.K.Keeper.rows c.args.keeper.now) c.args.number 1 (c.args.count - 1) c.args.s.now c.loop-height.height c.args.count c.loop-height.s c.loop-height-test.false c.loop-height.invariant.way
