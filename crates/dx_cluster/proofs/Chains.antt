@@ -1,16 +1,15 @@
 -- The rows of a node are just those of its blocks: when it starts, when it commits, and when others do.
 use Rattle.std.proofs.Common.{◌≡◌, ◌<◌, ◌≤◌, ◌+◌, ◌==◌, ℕ, zero, suc, Bool, true, false, cond, List, [], ◌∷◌, ◌++◌, length, arith, refl, sym, ap, subst, ◌∙◌, Option, Some, None, Result, Ok, Err}
 use Rattle.std.specs.Prelude.{IsOk}
-use Rattle.std.specs.List.{range_with_len, fold}
+use Rattle.std.specs.List.{range_with_len}
 use Rattle.std.specs.FinMap.{insert}
 use Rattle.std.proofs.lemmas.Bool.{eqb-true}
 use Rattle.std.proofs.lemmas.Bool.Decides.{nat_tests}
 use Rattle.std.proofs.lemmas.List.Sums.{fold-append}
 use Rattle.dx_types.specs.declared.Block.{Block}
 use Rattle.dx_types.specs.declared.Genesis.{Genesis}
-use Rattle.dx_types.specs.declared.Bad.{Bad}
 use Rattle.dx_spec.specs.State.{State, genesis_state}
-use Rattle.dx_spec.specs.Blocks.{block_step, fold_blocks}
+use Rattle.dx_spec.specs.Blocks.{fold_blocks}
 use Rattle.dx_io.specs.Rows.{Rows, row_count}
 use Rattle.dx_codec.specs.Blocks.{block_bytes, FitsBlock}
 use Rattle.dx_codec.specs.Genesis.{digest_of}

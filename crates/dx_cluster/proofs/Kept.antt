@@ -1,5 +1,5 @@
 -- What an event makes of the rows that a keeper tells.
-use Rattle.std.proofs.Common.{◌≡◌, ◌<◌, ◌==◌, ℕ, Bool, true, false, cond, List, [], ◌∷◌, map, length, refl, sym, ap, subst, ◌∙◌, get_or, inl, inr, Option, Some, None, Result, Ok, Err}
+use Rattle.std.proofs.Common.{◌≡◌, ◌<◌, ℕ, Bool, true, false, List, [], ◌∷◌, length, refl, sym, ap, subst, ◌∙◌, get_or, inl, inr, Option, Some, None, Result, Ok, Err}
 use Rattle.std.specs.Prelude.{slice_get, slice_set, All}
 use Rattle.std.specs.List.{AllZip, range_with_len}
 use Rattle.std.specs.Result.{IfOk, OnOk, IfErr, OnErr}
@@ -38,7 +38,7 @@ use Rattle.dx_cluster.specs.Starts.{Starts, StartRefused, KeepsBlock, MayKeepBlo
 use Rattle.dx_cluster.proofs.Everywhere.{AreNumbered, all_set, all_at, all_along, map_along, all_changed, zip_set}
 use Rattle.dx_cluster.proofs.Chains.{itself, started_over, same_rows_have, started_has, other_has, committed_has, committed_grows, begun_stays, begins_are}
 use Rattle.dx_cluster.proofs.Idling.{started_idle}
-use Rattle.dx_cluster.proofs.Keeping.{propose_nodes, stepped}
+use Rattle.dx_cluster.proofs.Keeping.{stepped}
 use Rattle.dx_cluster.proofs.Worlds.{found, same_set, slot_of, has_acted_at}
 
 -- ---- events beside rows

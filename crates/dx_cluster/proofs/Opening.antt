@@ -3,12 +3,12 @@ use Rattle.std.proofs.Common.{◌≡◌, ◌<◌, ◌+◌, ◌-◌, ℕ, zero, s
 use Rattle.std.specs.Prelude.{All}
 use Rattle.std.specs.List.{range_with_len}
 use Rattle.std.specs.FinMap.{empty}
-use Rattle.std.proofs.lemmas.List.Elements.{All-cons, All-nil, All-weaker}
+use Rattle.std.proofs.lemmas.List.Elements.{All-cons, All-nil}
 use Rattle.std.proofs.lemmas.List.FromFn.{length-range_with_len}
 use Rattle.dx_types.specs.declared.Block.{Block}
 use Rattle.dx_types.specs.declared.Genesis.{Genesis}
 use Rattle.dx_spec.specs.Step.{◌>>=◌}
-use Rattle.dx_spec.proofs.Scripts.{stage_passes, stage_next}
+use Rattle.dx_spec.proofs.Scripts.{stage_passes}
 use Rattle.dx_spec.proofs.Steps.{ok_same}
 use Rattle.dx_io.specs.Rows.{Rows}
 use Rattle.dx_history.specs.Chains.{Unkept, kept}

@@ -1,10 +1,8 @@
 -- The next run over the rows that one leaves has its nodes, with their blocks and their stateful orders.
-use Rattle.std.proofs.Common.{◌≡◌, ℕ, List, [], ◌∷◌, map, length, refl, sym, ap, ◌∙◌, Some, Result, Ok, Err}
+use Rattle.std.proofs.Common.{◌≡◌, ℕ, List, [], ◌∷◌, map, refl, sym, ap, ◌∙◌, Result, Ok}
 use Rattle.std.specs.Prelude.{All}
-use Rattle.std.specs.List.{range_with_len}
 use Rattle.std.specs.FinMap.{empty}
 use Rattle.std.proofs.lemmas.List.Elements.{All-head, All-tail}
-use Rattle.dx_types.specs.declared.Block.{Block}
 use Rattle.dx_types.specs.declared.Genesis.{Genesis}
 use Rattle.dx_spec.specs.Step.{◌>>=◌}
 use Rattle.dx_io.specs.Rows.{Rows}
@@ -12,8 +10,8 @@ use Rattle.dx_history.specs.Chains.{Unkept, kept}
 use Rattle.dx_history.proofs.Starting.{chain_read}
 use Rattle.dx_node_spec.specs.Node.{Node, new_node}
 use Rattle.dx_cluster.specs.Acts.{started}
-use Rattle.dx_cluster.specs.World.{World, node_of, nodes_of, begun_all, opened, HasRows}
-use Rattle.dx_cluster.specs.Laws.{next_world, NextRunGoesOn}
+use Rattle.dx_cluster.specs.World.{World, node_of, nodes_of, begun_all, HasRows}
+use Rattle.dx_cluster.specs.Laws.{NextRunGoesOn}
 use Rattle.dx_cluster.proofs.Chains.{begun_stays}
 
 -- the node that starts from the rows of another

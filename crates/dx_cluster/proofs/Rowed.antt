@@ -1,5 +1,5 @@
 -- The rows of each node are just those of its blocks in every world that is reached.
-use Rattle.std.proofs.Common.{◌≡◌, ◌+◌, ◌==◌, ℕ, true, false, List, [], ◌∷◌, ◌++◌, length, arith, refl, sym, ap, subst, ◌∙◌, Option, Some, None, Result, Ok, Err}
+use Rattle.std.proofs.Common.{◌≡◌, ◌+◌, ℕ, true, false, List, [], ◌∷◌, ◌++◌, length, refl, sym, ap, subst, ◌∙◌, Option, Some, None, Result, Ok, Err}
 use Rattle.std.specs.Prelude.{slice_get, slice_set, All}
 use Rattle.std.specs.List.{AllZip, range_with_len}
 use Rattle.std.specs.FinMap.{get, insert}
@@ -8,8 +8,6 @@ use Rattle.std.proofs.lemmas.Slice.Zip.{AllZip-long}
 use Rattle.dx_types.specs.declared.Block.{Block}
 use Rattle.dx_types.specs.declared.Genesis.{Genesis}
 use Rattle.dx_types.specs.declared.Bad.{Bad}
-use Rattle.dx_spec.specs.State.{State}
-use Rattle.dx_spec.specs.Blocks.{fold_from}
 use Rattle.dx_io.specs.Rows.{Rows}
 use Rattle.dx_codec.specs.Blocks.{block_bytes}
 use Rattle.dx_history.specs.Rows.{place_of}
@@ -18,17 +16,14 @@ use Rattle.dx_history.proofs.Climbing.{block_height, chain_height}
 use Rattle.dx_history.proofs.Growing.{grown, apart_from}
 use Rattle.dx_node_spec.specs.Node.{Node, committed}
 use Rattle.dx_node_spec.specs.Commits.{commit, placed_again}
-use Rattle.dx_speculation.specs.Faithful.{SameBlocks}
 use Rattle.dx_speculation.proofs.Outcomes.{committed_is}
 use Rattle.dx_speculation.proofs.Roots.{other_events_keep_blocks}
 use Rattle.dx_scenario.specs.declared.event.Event.{Event}
 use Rattle.dx_scenario.specs.declared.event.Event.TheVariants as events
-use Rattle.dx_print.specs.declared.answer.Answer.{Answer}
 use Rattle.dx_cluster.specs.Acts.{commit_answer, commit_slot}
-use Rattle.dx_cluster.specs.World.{World, node_acts, rows_with, rows_behind, commit_at, opened, acted, step, HasRows}
+use Rattle.dx_cluster.specs.World.{World, node_acts, rows_with, rows_behind, commit_at, opened, step, HasRows}
 use Rattle.dx_cluster.specs.Laws.{IsFold, RowsAreOfBlocks}
-use Rattle.dx_cluster.proofs.Everywhere.{AreNumbered, all_set, all_at, all_along, map_along, all_changed}
-use Rattle.dx_cluster.proofs.Living.{committing_folds}
+use Rattle.dx_cluster.proofs.Everywhere.{AreNumbered, all_at, all_along, map_along, all_changed}
 use Rattle.dx_cluster.proofs.Chains.{started_over, committed_grows}
 use Rattle.dx_cluster.proofs.Opening.{opened_numbered, opened_has}
 use Rattle.dx_cluster.proofs.Keeping.{folds_stay_good, stepped, reached}

@@ -1,5 +1,5 @@
 -- How a node starts from the rows that a keeper has of it, and what a commit makes of them.
-use Rattle.std.specs.Prelude.{◌≡◌, ℕ, List, Option, Some, Result, Ok, Err}
+use Rattle.std.specs.Prelude.{◌≡◌, ℕ, List, Option, Some, Ok, Err}
 use Rattle.dx_types.specs.declared.Block.{Block}
 use Rattle.dx_io.specs.Rows.{Rows}
 use Rattle.dx_codec.specs.Blocks.{FitsBlock}

@@ -1,4 +1,4 @@
-use Rattle.std.proofs.Common.{◌<◌, ◌≡◌, arith, refl}
+use Rattle.std.proofs.Common.{arith, refl}
 use Rattle.dx_cluster.proofs.Beginning.{opens, opens_some, open_fails}
 use Rattle.dx_cluster.proofs.cluster.Cluster.open.Goals as goal
 
