@@ -43,9 +43,9 @@ impl Cluster {
     /// slot filled ("Genesis line" in docs/FORMAT.md). A node that has no rows gets the digest of the genesis as its
     /// first one.
     ///
-    /// The first node whose rows are no chain of the genesis ends the call, `KeptBad` or `KeptOther`; `KeepFault` only
-    /// where the keeper's count of faults rose; `NoMemory` where there is none. The rows are then those behind the
-    /// starts of the nodes before.
+    /// The first node whose rows are no chain of the genesis ends the call, `KeptBad` or `KeptOther`: the rows are then
+    /// those behind the starts of the nodes before it. `KeepFault` comes only where the keeper's count of faults rose,
+    /// and `NoMemory` where there is none: the rows are then those behind the starts of the first so many nodes.
     pub fn open<K: Keeper>(
         alloc: Global,
         count: u32,
