@@ -1,6 +1,5 @@
 -- What the words ask for, and how a run of it ends.
 use Rattle.std.proofs.Common.{◌≡◌, ◌∙◌, ℕ, List, Option, Some, None, refl, sym, ap, subst, inr}
-use Rattle.std.specs.Io.KnownBytes.{Keeps}
 use Rattle.dx_types.specs.declared.status.Status.{Status}
 use Rattle.dx_types.specs.declared.status.Status.TheVariants as ends
 use Rattle.dx_io.specs.Rows.{Rows}
@@ -10,7 +9,6 @@ use Rattle.dx_words.specs.declared.words.Words.{Words}
 use Rattle.dx_words.specs.declared.words.WordsFault.{WordsFault}
 use Rattle.dx_words.specs.declared.words.WordsFault.TheVariants as asking
 use Rattle.dx_app.specs.Lines.{rest_of}
-use Rattle.dx_app.specs.Prompt.{AppendsSome}
 use Rattle.dx_app.specs.Transcript.{Told, ended, scenario, generate_told, self_told, job_told, asked_told}
 use Rattle.dx_app.specs.Runs.{Says, AppendsLast, IsRunOf, EndsUnasked}
 use Rattle.dx_app.specs.Causes.{job_asked}

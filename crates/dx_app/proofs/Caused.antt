@@ -1,5 +1,5 @@
 -- How a run ends, and its cause.
-use Rattle.std.proofs.Common.{◌≡◌, ◌-◌, ◌⊎◌, ◌↔◌, inl, inr, ℕ, Bool, true, false, IsTrue, List, [], ◌∷◌, MatchBool, Option, Some, None, refl, sym, ap, subst, ◌∙◌, arith, lit<, lit≤}
+use Rattle.std.proofs.Common.{◌≡◌, ◌-◌, ◌⊎◌, ◌↔◌, inl, inr, ℕ, true, false, IsTrue, List, MatchBool, Option, Some, None, refl, sym, ap, ◌∙◌, arith, lit<, lit≤}
 use Rattle.dx_types.specs.declared.status.Status.{Status}
 use Rattle.dx_types.specs.declared.status.Status.TheVariants as ends
 use Rattle.dx_types.specs.declared.Genesis.{Genesis}
@@ -184,6 +184,10 @@ module _ (rows : Rows) (left before now : Option (List ℕ)) (k : Option Rows) (
       → HadSurely left (IsGoodScenario rows) → ¬ ReadRose → ¬ WriteRose → ¬ KeepRose → IsWhole (scenario rows) left before now k s
   lines_whole R W K read write keep surely calm quiet still = whole_by (scenario rows) left before now k s R W K r read write keep (λ input is. (good_law rows input).1 (surely input is)) calm quiet still
 
+-- there is no job
+abbrev no_job : Option Job
+no_job = None
+
 -- a run that replays its input ends as its lines say, and no other run ends so
 job_law : (j : Job) (seed events : ℕ) (rows : Rows) (status : Status) (IsOfKind : List ℕ → Type 0) → (ends.Done ≡ status → ⊥) → ((input : List ℕ) → ((scenario rows input).status ≡ status) ↔ IsOfKind input)
     → (input : List ℕ) → ((job_told j seed events rows input).status ≡ status) ↔ ((Some j ≡ Some jobs.Replay) × IsOfKind input)
@@ -193,7 +197,7 @@ job_law jobs.Generate seed events rows status IsOfKind undone law input = (λ e.
 
 asked_law : (asked : Option Words) (rows : Rows) (status : Status) (IsOfKind : List ℕ → Type 0) → (ends.Usage ≡ status → ⊥) → (ends.Done ≡ status → ⊥) → ((input : List ℕ) → ((scenario rows input).status ≡ status) ↔ IsOfKind input)
     → (input : List ℕ) → ((asked_told asked rows input).status ≡ status) ↔ (IsReplay asked × IsOfKind input)
-asked_law None rows status IsOfKind other undone law input = (λ e. absurd (other e), λ both. let no : None {A = Job} ≡ Some jobs.Replay = both.0 in absurd (cc))
+asked_law None rows status IsOfKind other undone law input = (λ e. absurd (other e), λ both. let no : no_job ≡ Some jobs.Replay = both.0 in absurd (cc))
 asked_law (Some w) rows status IsOfKind other undone law input = job_law w.job w.seed w.events rows status IsOfKind undone law input
 
 -- a run is done exactly where a generated scenario is asked for, or the replay of a good one
@@ -214,9 +218,9 @@ asked_good : (asked : Option Words) (rows : Rows) (input : List ℕ) → ((asked
 asked_good None rows input = (
   λ e. absurd (cc),
   λ h. elim h [
-    | inl (inl own) ↦ let no : None {A = Job} ≡ Some jobs.SelfRun = own in absurd (cc)
-    | inl (inr own) ↦ let no : None {A = Job} ≡ Some jobs.Generate = own in absurd (cc)
-    | inr both ↦ let no : None {A = Job} ≡ Some jobs.Replay = both.0 in absurd (cc)
+    | inl (inl own) ↦ let no : no_job ≡ Some jobs.SelfRun = own in absurd (cc)
+    | inl (inr own) ↦ let no : no_job ≡ Some jobs.Generate = own in absurd (cc)
+    | inr both ↦ let no : no_job ≡ Some jobs.Replay = both.0 in absurd (cc)
   ],
 )
 asked_good (Some w) rows input = job_good w.job w.seed w.events rows input

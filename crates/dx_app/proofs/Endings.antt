@@ -1,5 +1,5 @@
 -- What is wrong in the lines of an input, and how its run ends.
-use Rattle.std.proofs.Common.{◌≡◌, ◌<◌, ◌≤◌, ◌+◌, inl, inr, ℕ, zero, suc, Bool, true, false, cond, nat_lt, List, [], ◌∷◌, length, take, slice_get, All, IsNone, is_some, Option, Some, None, Result, Ok, Err, refl, sym, ap, ◌∙◌, arith}
+use Rattle.std.proofs.Common.{◌≡◌, ◌<◌, ◌≤◌, ◌+◌, inl, inr, ℕ, zero, suc, Bool, true, false, cond, nat_lt, List, [], ◌∷◌, length, take, slice_get, All, IsNone, is_some, Option, Some, None, Result, Ok, Err, refl, ap, ◌∙◌, arith}
 use Rattle.std.proofs.lemmas.Bool.{le-ltb, lt-ltb, cases_lt}
 use Rattle.std.proofs.lemmas.List.Elements.{All-nil, All-cons, All-head, All-tail}
 use Rattle.dx_types.specs.declared.status.Status.{Status}
@@ -12,7 +12,7 @@ use Rattle.dx_scenario.specs.Events.{event_of}
 use Rattle.dx_cluster.specs.World.{World, opened, step}
 use Rattle.dx_cluster.proofs.Counting.{step_keeps}
 use Rattle.dx_app.specs.Lines.{longest_line, cut}
-use Rattle.dx_app.specs.Transcript.{Told, line_limit, ended, bad_line, or_bad, event_told, lines_told, genesis_told, genesis_in, scenario_told, scenario, unkept_status, started_told}
+use Rattle.dx_app.specs.Transcript.{Told, line_limit, ended, bad_line, or_bad, event_told, lines_told, genesis_told, genesis_in, scenario_told, scenario, started_told}
 use Rattle.dx_app.specs.Causes.{wrong_place, count_of, event_faults, line_faults, faults}
 use Rattle.dx_app.proofs.Starting.{opened_count, fault_in, start_fault, or_start}
 

@@ -1,5 +1,5 @@
 -- The lines of a generated scenario, written one after another, and the digest of their run.
-use Rattle.std.proofs.Common.{◌≡◌, ◌∙◌, ◌++◌, ℕ, List, [], ◌∷◌, Option, Some, false, refl, sym, ap, subst, append_assoc, append-nil}
+use Rattle.std.proofs.Common.{◌≡◌, ◌∙◌, ◌+◌, ◌*◌, ◌/◌, ◌++◌, ℕ, List, [], ◌∷◌, Option, Some, false, refl, sym, ap, subst, append_assoc, append-nil}
 use Rattle.std.specs.List.{concat}
 use Rattle.std.specs.FinMap as map
 use Rattle.std.specs.Io.KnownBytes.{Appends}
@@ -7,9 +7,11 @@ use Rattle.sha2.specs.Sha256.{sha256}
 use Rattle.dx_types.specs.declared.status.Status.{Status}
 use Rattle.dx_io.specs.Rows.{Rows}
 use Rattle.dx_gen.specs.Texts.{scenario_lines}
+use Rattle.dx_gen.proofs.Counts.{scenario_count}
+use Rattle.dx_streams.specs.Summaries.{summary_text}
 use Rattle.dx_app.specs.Output.{AppendsFront}
 use Rattle.dx_app.specs.OwnRuns.{Writes}
-use Rattle.dx_app.specs.Transcript.{generated, run_digest, scenario}
+use Rattle.dx_app.specs.Transcript.{generated, run_digest, self_told, scenario}
 use Rattle.dx_app.specs.Runs.{is_fault, IsInput, EndsAs, IsRunOf}
 use Rattle.dx_app.proofs.Outputs.{appends_nothing, appends_then}
 
@@ -58,3 +60,9 @@ hashed seed events lines left before now k s written r all l b n plain =
     let wrote : Appends (Some []) now (scenario map.empty r.input).bytes = subst (λ x. Appends x now (scenario map.empty r.input).bytes) b said.0 in
     let whole : Appends (Some []) (Some written) (scenario map.empty r.input).bytes = subst (λ x. Appends (Some []) x (scenario map.empty r.input).bytes) n wrote in
     ap sha256 (whole ∙ ap (λ xs. (scenario map.empty xs).bytes) input)
+
+-- the text of the number of lines and of the digest is what is told
+pub summed : (seed events count : ℕ) (digest text shown : List ℕ) (rows : Rows) → count ≡ 11 + events + 6 * (events / 7) → digest ≡ run_digest seed events → text ≡ summary_text count digest → shown ≡ text
+    → (self_told seed events rows).bytes ≡ shown
+summed seed events count digest text shown rows c d t s =
+    ap (λ n. summary_text n (run_digest seed events)) (scenario_count seed events ∙ sym c) ∙ ap (summary_text count) (sym d) ∙ sym t ∙ sym s

@@ -1,5 +1,5 @@
 -- What is kept where a run ends: just what its executed lines put.
-use Rattle.std.proofs.Common.{◌≡◌, ◌≤◌, ◌⊎◌, inl, inr, ℕ, suc, List, [], ◌∷◌, ◌++◌, length, refl, sym, ap, subst, ◌∙◌, append_assoc, append-nil, true, false, MatchBool, Option, Some, Result, Ok, Err}
+use Rattle.std.proofs.Common.{◌≡◌, ◌≤◌, ◌⊎◌, inl, inr, ℕ, List, [], ◌∷◌, ◌++◌, length, refl, sym, ap, subst, ◌∙◌, append_assoc, append-nil, true, false, MatchBool, Option, Some, Ok}
 use Rattle.std.specs.Io.KnownBytes.{Appends, Keeps}
 use Rattle.dx_types.specs.declared.status.Status.{Status}
 use Rattle.dx_types.specs.declared.status.Status.TheVariants as ends
@@ -19,7 +19,7 @@ use Rattle.dx_app.specs.declared.lines.Cut.TheVariants.{Line}
 use Rattle.dx_app.specs.Lines.{newline, rest_of, CutsLine}
 use Rattle.dx_app.specs.Output.{AppendsFront}
 use Rattle.dx_app.specs.Transcript.{Told, line_limit, told_after, ended, lines_told, rest_told, scenario, lines_alone}
-use Rattle.dx_app.specs.Runs.{is_fault, EndsAs, Says, AppendsLast, ExecutesLines, Executes, Holds, GoesOn, line_alone, ExecutesLine, StopsAtLine, EndsAtLine, EndsUnserved}
+use Rattle.dx_app.specs.Runs.{is_fault, EndsAs, Says, AppendsLast, Executes, Holds, GoesOn, line_alone, ExecutesLine, StopsAtLine, EndsAtLine, EndsUnserved}
 use Rattle.dx_app.proofs.Outputs.{appends_then, keeps_front, nothing_front, front_more, rest_is_input, read_is_input}
 use Rattle.dx_app.proofs.Runs.{lines_at_hand, line_at_hand, line_then, rest_line, nothing_told, line_is}
 

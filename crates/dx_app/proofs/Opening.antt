@@ -1,8 +1,8 @@
 -- The first line of an input, and the start of the nodes.
-use Rattle.std.proofs.Common.{◌≡◌, ◌≤◌, ◌⊎◌, inl, inr, ℕ, suc, List, [], ◌∷◌, ◌++◌, length, refl, sym, ap, subst, ◌∙◌, append_assoc, append-nil, true, false, ◌==◌, arith, Option, Some, Result, Ok, Err}
+use Rattle.std.proofs.Common.{◌≡◌, ◌≤◌, ◌⊎◌, inl, inr, ℕ, List, [], ◌∷◌, ◌++◌, length, refl, sym, ap, subst, ◌∙◌, append-nil, false, Option, Some, Result, Ok, Err}
 use Rattle.std.specs.List.{range_with_len}
 use Rattle.std.proofs.lemmas.Bool.{le-ltb, lt-ltb}
-use Rattle.std.specs.Io.KnownBytes.{Appends, Keeps, IsAtEnd, Consumes}
+use Rattle.std.specs.Io.KnownBytes.{Appends}
 use Rattle.dx_types.specs.declared.Genesis.{Genesis}
 use Rattle.dx_types.specs.declared.status.Status.{Status}
 use Rattle.dx_types.specs.declared.status.Status.TheVariants as ends
@@ -17,14 +17,14 @@ use Rattle.dx_print.specs.Replies.{reply_line}
 use Rattle.dx_cluster.specs.declared.cluster.Cluster.{Cluster}
 use Rattle.dx_cluster.specs.declared.fault.StartFault.{StartFault}
 use Rattle.dx_cluster.specs.declared.fault.StartFault.TheVariants as starts
-use Rattle.dx_cluster.specs.World.{World, opened, begun_all, Stands, KeepsRows, Opens, IsBegun, OpenRefused}
+use Rattle.dx_cluster.specs.World.{World, opened, begun_all, Opens, IsBegun, OpenRefused}
 use Rattle.dx_app.specs.declared.lines.Cut.TheVariants.{Line, Broken, End}
 use Rattle.dx_app.specs.Lines.{newline, longest_line, has_newline, cut, AreBroken, rest_of, CutsLine}
 use Rattle.dx_app.specs.Output.{AppendsFront}
-use Rattle.dx_app.specs.Transcript.{Told, told_after, ended, bad_line, or_bad, lines_told, rest_told, genesis_reply, unkept_status, started_told, genesis_told, genesis_in, scenario_told, scenario, lines_alone}
-use Rattle.dx_app.specs.Runs.{is_fault, IsInput, Says, AppendsLast, IsRunOf, ExecutesLines, Executes, IsStarting, KeepsLines, Holds, GoesOn, EndsAtLine, EndsUnserved, OpensTo}
+use Rattle.dx_app.specs.Transcript.{Told, told_after, ended, bad_line, or_bad, rest_told, genesis_reply, started_told, genesis_told, genesis_in, scenario_told, scenario, lines_alone}
+use Rattle.dx_app.specs.Runs.{is_fault, IsInput, Says, AppendsLast, IsRunOf, KeepsLines, Holds, GoesOn, EndsAtLine, EndsUnserved, OpensTo}
 use Rattle.dx_app.proofs.Newlines.{cut_line}
-use Rattle.dx_app.proofs.Outputs.{appends_nothing, keeps_front, nothing_front, front_more, rest_is_input, read_is_input}
+use Rattle.dx_app.proofs.Outputs.{keeps_front, front_more, rest_is_input, read_is_input}
 use Rattle.dx_app.proofs.Kept.{unserved_last, alone_is}
 use Rattle.dx_app.proofs.Runs.{says_by_fault, says_at_fault, says_kept, lines_at_hand, line_at_hand, line_then, nothing_at_hand, nothing_told}
 

@@ -1,5 +1,5 @@
 -- The nodes that are started, or the first one that is not.
-use Rattle.std.proofs.Common.{◌≡◌, ◌⊎◌, ◌↔◌, inl, inr, ℕ, suc, true, false, List, [], ◌∷◌, length, Option, Some, None, Result, Ok, Err, IsOk, refl, sym, ap, subst, ◌∙◌}
+use Rattle.std.proofs.Common.{◌≡◌, ◌↔◌, ℕ, suc, List, [], ◌∷◌, length, Option, Some, None, Result, Ok, Err, IsOk, refl, sym, ap, subst, ◌∙◌}
 use Rattle.std.specs.List.{range_with_len}
 use Rattle.std.specs.FinMap.{empty}
 use Rattle.std.proofs.lemmas.List.FromFn.{length-range_with_len}
@@ -15,7 +15,7 @@ use Rattle.dx_node_spec.specs.Node.{Node}
 use Rattle.dx_cluster.specs.World.{World, node_of, nodes_of, begun_all, opened}
 use Rattle.dx_app.specs.Lines.{cut}
 use Rattle.dx_app.specs.Transcript.{unkept_status, genesis_in}
-use Rattle.dx_app.specs.Causes.{IsStarted, IsUnkept, IsKeptBad, IsKeptOther}
+use Rattle.dx_app.specs.Causes.{IsStarted, IsKeptBad, IsKeptOther}
 
 nodes_count : (g : Genesis) (rows : Rows) (numbers : List ℕ) (ps : List Node) → nodes_of g rows numbers ≡ Ok ps → length ps ≡ length numbers
 nodes_count g rows [] ps e = ap length (sym (ok_same [] ps e))

@@ -1,5 +1,5 @@
 -- How far a run reads, and what it has answered by then: each line is answered before the next one is read.
-use Rattle.std.specs.Prelude.{◌≡◌, ℕ, ◌≤◌, List, [], ◌∷◌, ◌++◌, length, false, Option}
+use Rattle.std.specs.Prelude.{◌≡◌, ℕ, ◌≤◌, List, [], ◌++◌, length, false, Option}
 use Rattle.std.specs.Io.KnownBytes.{Appends, Consumes}
 use Rattle.dx_types.specs.declared.status.Status.TheVariants.{Done}
 use Rattle.dx_app.specs.Lines.{longest_line, has_newline}

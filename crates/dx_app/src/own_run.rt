@@ -46,7 +46,6 @@ fn write_done<W: Sink>(sink: &mut W, text: &[u8]) -> Status
 
 /// Runs a generated scenario over a keeper of its own, and tells the digest of what the run writes, which is hashed
 /// as it is written; or there was no memory. It holds one line of the scenario at a time.
-#[tactic(auto, using(crate::proofs::Generated::hashed))]
 fn digest_of_run(alloc: Global, seed: u64, events: u32) -> Option<[u8; 32]>
     ensures { IfSome result (λ digest. digest ≡ run_digest seed events) }
 {

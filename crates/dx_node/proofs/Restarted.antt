@@ -22,7 +22,7 @@ use Rattle.dx_accounts.specs.Steady.{IsSteady}
 use Rattle.dx_rules.specs.Settled.{IsSettled}
 use Rattle.dx_rules.proofs.Blocking.{IsSteady-IsSettled}
 use Rattle.dx_history.specs.Chains.{kept}
-use Rattle.dx_node_spec.specs.Node.{Node}
+use Rattle.dx_node_spec.specs.Node.{Node, committed}
 use Rattle.dx_node_spec.specs.Commits.{restarted}
 use Rattle.dx_speculation.proofs.Committing.{restarting_is_faithful}
 use Rattle.dx_speculation.proofs.Replayable.{restarting_makes_replayable}

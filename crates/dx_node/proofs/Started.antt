@@ -266,3 +266,10 @@ pub refused_before : {A : Type 0} (rows mid : Option Rows) (g : Genesis) (node c
     → ((r : Rows) → mid ≡ Some r → count ≡ row_count r node → IfErr result (IsUnkept g (kept g r node)))
     → (r : Rows) → rows ≡ Some r → IfErr result (IsUnkept g (kept g r node))
 refused_before rows mid g node count result same n f r e = f r (same_known rows mid same r e) (counted_at rows node count r e n)
+
+-- a good answer behind two calls that only read
+pub read_well : {A B T : Type 0} (a b c : Option Rows) (x y z : ℕ) (first : Result A RestartFault) (second : Result B RestartFault) (answer : T)
+    → OnlyReads a b x y first → OnlyReads b c y z second → OnlyReads {T = T} a c x z (Ok answer)
+read_well a b c x y z first second answer h k =
+    let m = read_on a b c x y z first second h k in
+    record { same = m.same; later = m.later; failed = λ e. absurd (cc) }

@@ -213,7 +213,11 @@ impl Node {
     ///
     /// `Bad` with the block's first bad part, exactly as [`Node::check`] has it; `KeepFault` only where the keeper's
     /// count of faults rose; `NoMemory` where there is none. The node and the rows are then as before.
-    pub fn commit<K: Keeper>(&mut self, block: &Block, keeper: &mut K) -> Result<List<u32>, CommitFault>
+    pub fn commit<K: Keeper>(
+        &mut self,
+        block: &Block,
+        keeper: &mut K,
+    ) -> Result<List<u32>, CommitFault>
         requires idle { self.old.again ≡ [] }
         ensures ok { IfOk result (λ results. (p : PlainNode) → StandsFor self.old p
             → Gives self.new results (committed_with p block.now)) }
@@ -454,13 +458,7 @@ impl Node {
         ensures same { OnErr result (self.new ≡ self.old) }
     {
         let alloc = self.allocator();
-        let swept = sweep_at(
-            alloc,
-            &mut self.work,
-            &mut self.queue,
-            &mut self.book,
-            who,
-        )?;
+        let swept = sweep_at(alloc, &mut self.work, &mut self.queue, &mut self.book, who)?;
         Ok(swept)
     }
 

@@ -73,7 +73,8 @@ fn next_block<K: Keeper>(
     ensures ok { OnOk result (Adds (K.rows keeper.old) number height s.old s.new) }
     ensures refused { (rows : Rows) → K.rows keeper.old ≡ Some rows → (g : Beginning) → (more : ℕ) →
         IfErr result (IsUnkept g (kept_from s.old rows number height (suc more))) }
-    ensures read { OnlyReads (K.rows keeper.old) (K.rows keeper.new) (K.faults keeper.old) (K.faults keeper.new) result }
+    ensures read { OnlyReads (K.rows keeper.old) (K.rows keeper.new)
+        (K.faults keeper.old) (K.faults keeper.new) result }
 {
     let block = match kept_block(keeper, number, height) {
         Ok(block) => block,
@@ -101,7 +102,8 @@ fn fold_rows<K: Keeper>(
     ensures ok { OnOk result (LeadsFrom (K.rows keeper.old) number 1 (count - 1) s.old s.new) }
     ensures refused { (rows : Rows) → K.rows keeper.old ≡ Some rows → (g : Beginning) →
         IfErr result (IsUnkept g (kept_from s.old rows number 1 (count - 1))) }
-    ensures read { OnlyReads (K.rows keeper.old) (K.rows keeper.new) (K.faults keeper.old) (K.faults keeper.new) result }
+    ensures read { OnlyReads (K.rows keeper.old) (K.rows keeper.new)
+        (K.faults keeper.old) (K.faults keeper.new) result }
 {
     for height in 1..count {
         next_block(alloc, keeper, number, height, s)?;
@@ -132,16 +134,14 @@ fn check_bytes(bytes: &[u8], ours: &[u8; 32]) -> Result<(), RestartFault>
 /// Tests the row of a node at height 0 against the digest of its genesis.
 ///
 /// `KeptOther` where it is 32 other bytes, and `KeptBad` where it is missing or is not 32 bytes.
-fn check_first<K: Keeper>(
-    keeper: &mut K,
-    number: u32,
-    ours: &[u8; 32],
-) -> Result<(), RestartFault>
+fn check_first<K: Keeper>(keeper: &mut K, number: u32, ours: &[u8; 32]) -> Result<(), RestartFault>
     ensures ok { OnOk result ((g : Beginning) → ours.now ≡ digest_of g →
         IfSome (K.rows keeper.old) (λ rows. first_fault g (get rows (place_of number 0)) ≡ None)) }
-    ensures refused { (rows : Rows) → K.rows keeper.old ≡ Some rows → (g : Beginning) → ours.now ≡ digest_of g → (above : Outcome (Items Block) Unkept) →
+    ensures refused { (rows : Rows) → K.rows keeper.old ≡ Some rows → (g : Beginning) → ours.now ≡ digest_of g →
+        (above : Outcome (Items Block) Unkept) →
         IfErr result (IsUnkept g (first_of (first_fault g (get rows (place_of number 0))) above)) }
-    ensures read { OnlyReads (K.rows keeper.old) (K.rows keeper.new) (K.faults keeper.old) (K.faults keeper.new) result }
+    ensures read { OnlyReads (K.rows keeper.old) (K.rows keeper.new)
+        (K.faults keeper.old) (K.faults keeper.new) result }
 {
     let Some(row) = keeper.get(number, 0)? else {
         return Err(RestartFault::KeptBad { height: 0 });
@@ -159,6 +159,18 @@ fn start_at(alloc: Global, state: PlainState) -> Result<Start, NoMemory>
     let again = state.stateful_orders()?;
     let work = Work::new(alloc, state)?;
     Ok(Start { work, again })
+}
+
+/// Sets the first row of a node to a digest. The rows are as before at a refusal.
+fn set_first<K: Keeper>(keeper: &mut K, number: u32, digest: &[u8; 32]) -> Result<(), RestartFault>
+    ensures refused { (g : Beginning) → (told : Outcome (Items Block) Unkept) → IfErr result (IsUnkept g told) }
+    ensures set { OnOk result (SetsRow (K.rows keeper.old) (K.rows keeper.new) (place_of number 0) digest.now) }
+    ensures rows { OnErr result (SameRows (K.rows keeper.old) (K.rows keeper.new)) }
+    ensures later { K.faults keeper.old ≤ K.faults keeper.new }
+    ensures failed { IsErrOf result RestartFault.KeepFault → Rose (K.faults keeper.old) (K.faults keeper.new) }
+{
+    keeper.put(number, 0, digest)?;
+    Ok(())
 }
 
 /// Sets the first row of a node that has none, once there is memory for all from which the node starts.
@@ -187,8 +199,10 @@ fn begin<K: Keeper>(
     let digest = genesis_digest(alloc, g)?;
     let state = PlainState::genesis(alloc, g)?;
     let start = start_at(alloc, state)?;
-    keeper.put(number, 0, &digest)?;
-    Ok(start)
+    match set_first(keeper, number, &digest) {
+        Ok(()) => Ok(start),
+        Err(fault) => Err(fault),
+    }
 }
 
 /// Reads the rows of a node that has some: all that are counted, by rising height.
@@ -204,14 +218,16 @@ fn go_on<K: Keeper>(
 ) -> Result<Start, RestartFault>
     requires genesis { IsGenesis g.now }
     requires some { 1 ≤ count }
-    ensures begins { IfOk result (λ start. Begins g.now (AreCounted (K.rows keeper.old) g.now number count) (committed start.work)) }
+    ensures begins { IfOk result (λ start.
+        Begins g.now (AreCounted (K.rows keeper.old) g.now number count) (committed start.work)) }
     ensures settled { IfOk result (λ start. IsSettled (committed start.work)) }
     ensures speculative { IfOk result (λ start. present start.work ≡ committed start.work) }
     ensures nothing { IfOk result (λ start. aside_of start.work ≡ None) }
     ensures again { IfOk result (λ start. start.again ≡ values (committed start.work).stateful) }
     ensures refused { (rows : Rows) → K.rows keeper.old ≡ Some rows → count ≡ row_count rows number →
         IfErr result (IsUnkept g.now (kept g.now rows number)) }
-    ensures read { OnlyReads (K.rows keeper.old) (K.rows keeper.new) (K.faults keeper.old) (K.faults keeper.new) result }
+    ensures read { OnlyReads (K.rows keeper.old) (K.rows keeper.new)
+        (K.faults keeper.old) (K.faults keeper.new) result }
 {
     genesis_is_settled();
     let ours = genesis_digest(alloc, g)?;
@@ -233,12 +249,14 @@ pub(crate) fn start_anew<K: Keeper>(
     g: &Genesis,
 ) -> Result<Start, RestartFault>
     requires { IsGenesis g.now }
-    ensures begins { IfOk result (λ start. Begins g.now (IsChainOf (K.rows keeper.old) g.now number) (committed start.work)) }
+    ensures begins { IfOk result (λ start.
+        Begins g.now (IsChainOf (K.rows keeper.old) g.now number) (committed start.work)) }
     ensures settled { IfOk result (λ start. IsSettled (committed start.work)) }
     ensures speculative { IfOk result (λ start. present start.work ≡ committed start.work) }
     ensures nothing { IfOk result (λ start. aside_of start.work ≡ None) }
     ensures again { IfOk result (λ start. start.again ≡ values (committed start.work).stateful) }
-    ensures refused { (rows : Rows) → K.rows keeper.old ≡ Some rows → IfErr result (IsUnkept g.now (kept g.now rows number)) }
+    ensures refused { (rows : Rows) → K.rows keeper.old ≡ Some rows →
+        IfErr result (IsUnkept g.now (kept g.now rows number)) }
     ensures begun { OnOk result (IsBegun (K.rows keeper.old) (K.rows keeper.new) g.now number) }
     ensures rows { OnErr result (SameRows (K.rows keeper.old) (K.rows keeper.new)) }
     ensures later { K.faults keeper.old ≤ K.faults keeper.new }

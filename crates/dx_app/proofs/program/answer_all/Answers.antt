@@ -3,7 +3,7 @@ use Rattle.dx_app.proofs.Runs.{run_then, run_kept}
 use Rattle.dx_app.proofs.Opening.{opened_world, unopened_ends, unopened_keeps, greeting_ends, greeting_keeps, greeted}
 use Rattle.dx_app.proofs.Kept.{unserved_last, executes_none, executes_alone, executes_then}
 use Rattle.dx_app.proofs.Counts.{caused_unopened, caused_opened, caused_greeting, caused_opening}
-use Rattle.dx_app.proofs.Prompt.{run_some, last_some, front_some, no_further, no_further_first, replies_out, replies_out_first, behind_later, whole_later}
+use Rattle.dx_app.proofs.Prompt.{last_some, front_some, no_further, no_further_first, replies_out, replies_out_first, behind_later, whole_later}
 use Rattle.dx_app.proofs.program.answer_all.Goals as goal
 
 pub returns-in-Err-clause-said : goal.returns-in-Err-clause-said
