@@ -1,5 +1,5 @@
 -- How nodes start one after another from the rows of a keeper.
-use Rattle.std.proofs.Common.{◌≡◌, ◌<◌, ◌≤◌, ◌+◌, ℕ, List, [], ◌∷◌, ◌++◌, arith, refl, sym, ap, subst, ◌∙◌, inl, inr, Option, Some, Result, Ok, Err}
+use Rattle.std.proofs.Common.{◌≡◌, ◌<◌, ◌≤◌, ◌+◌, ℕ, suc, List, [], ◌∷◌, ◌++◌, length, IfErr, arith, refl, sym, ap, subst, ◌∙◌, inl, inr, Option, Some, Result, Ok, Err}
 use Rattle.std.specs.Prelude.{All}
 use Rattle.std.specs.List.{AllZip, range_with_len}
 use Rattle.std.specs.FinMap.{empty}
@@ -140,3 +140,21 @@ pub open_ends : (count i : ℕ) (g : Genesis) (rows : Rows) (items : List Held) 
 open_ends count i g rows items before after fault s b e =
     let now = begun_all g rows (range_with_len 0 i) in
     subst (OpenRefused (opened count g rows) g rows after) (sym e) (i + 1, begins_are before after now (new_node i g) s.told b ∙ ap Some (next_begun g rows i))
+
+-- what holds of the fault of a result that is known
+pub err_told : {A : Type 0} (r : Result A StartFault) (fault : StartFault) (P : StartFault → Type 0) → r ≡ Err fault → P fault → IfErr r P
+err_told r fault P e h = subst (λ x. IfErr x P) (sym e) h
+
+-- and what follows from it
+pub err_follows : {A : Type 0} (P Q : StartFault → Type 0) (r : Result A StartFault) → ((fault : StartFault) → P fault → Q fault) → IfErr r P → IfErr r Q
+err_follows P Q (Ok x) f h = tt
+err_follows P Q (Err fault) f h = f fault h
+
+-- one node more
+pub one_more : (items : List Held) (node : Held) (i : ℕ) → length items ≡ i → length (items ++ node ∷ []) ≡ i + 1
+one_more [] node i e = let none : 0 ≡ i = e in let one : 1 ≡ i + 1 = omega (arith, none) in one
+one_more (other ∷ items) node i e =
+    let here : suc (length items) ≡ i = e in
+    let behind = one_more items node (length items) refl in
+    let more : suc (length (items ++ node ∷ [])) ≡ i + 1 = omega (arith, here, behind) in
+    more
