@@ -44,8 +44,8 @@ module _ (whole : List ℕ) (a b : Option (List ℕ)) (lines : List (List ℕ)) 
     (
       f.2.0 ++ concat more,
       append_assoc w.out f.0 (f.2.0 ++ concat more)
-      ∙ ap (λ xs. w.out ++ xs) (sym (append_assoc f.0 f.2.0 (concat more)) ∙ ap (λ xs. xs ++ concat more) f.2.1)
-      ∙ ap (λ ls. w.out ++ concat ls) (sym e) ∙ w.joined,
+          ∙ ap (λ xs. w.out ++ xs) (sym (append_assoc f.0 f.2.0 (concat more)) ∙ ap (λ xs. xs ++ concat more) f.2.1)
+          ∙ ap (λ ls. w.out ++ concat ls) (sym e) ∙ w.joined,
     ),
   )
 
