@@ -166,6 +166,6 @@ module _ (w0 w1 : Option (List ℕ)) (k : Option Rows) (w : World) (nodes n : �
   -- the event is not answered
   pub unserved_stops : (fault : StartFault) (s : Status) → Breaks (step w e) w k fault → EndsUnserved w0 w1 fault s → StopsAtLine w n line w0 w1 k
   unserved_stops starts.KeepFault s b u = served_or_not s b.either u.1
-  unserved_stops starts.NoMemory s b u = served_or_not s b.left_rows u.1
+  unserved_stops starts.NoMemory s b u = served_or_not s b.either u.1
   unserved_stops (starts.KeptBad node height) s b u = absurd (elim b.outside [ inl o ↦ cc | inr o ↦ cc ])
   unserved_stops (starts.KeptOther node theirs ours) s b u = absurd (elim b.outside [ inl o ↦ cc | inr o ↦ cc ])
