@@ -18,7 +18,7 @@ use Rattle.dx_node_spec.specs.Events.{fed, pooled, cancel, cancel_all, sweep}
 use Rattle.dx_node_spec.specs.Commits.{adopted, commit, replay_next, placed_again, after_turns, restarted}
 use Rattle.dx_speculation.specs.Faithful.{IsFaithful}
 use Rattle.dx_speculation.specs.NodeEvents.{NodeEvent, Placing, Cancelling, CancellingAll, Pooling, Feeding, Sweeping, Replaying, IsNoCommit, node_of, itself_or, swept_or, after as node_after}
-use Rattle.dx_speculation.proofs.Nodes.{fold_more}
+use Rattle.dx_spec.proofs.Folds.{fold_more}
 use Rattle.dx_speculation.proofs.Events.{speculative_is_sound}
 use Rattle.dx_speculation.proofs.NodeEvents.{every_event_keeps_faithful}
 use Rattle.dx_speculation.proofs.Roots.{other_events_keep_blocks}

@@ -4,9 +4,9 @@ ghost use Rattle.std.specs.Prelude.{◌≤◌, length, All, IfOk};
 ghost use Rattle.dx_spec.specs.Genesis.{IsGenesis, IsMarketParams};
 
 use crate::{CodecFault, decode_block, decode_state, encode_block, encode_state, genesis_digest};
+use dx_sample::{genesis_of, market};
 use dx_types::{
-    Block, Genesis, Kind, List, MarketParams, Msg, NoMemory, Op, Order, OrderId, Params,
-    SubaccountId, Vote,
+    Block, Genesis, Kind, List, MarketParams, Msg, NoMemory, Op, Order, OrderId, SubaccountId, Vote,
 };
 use std::alloc::Global;
 use std::test::Fail;
@@ -158,24 +158,6 @@ fn blocks_and_their_bytes(rt: HostRuntime) -> Result<(), Fail> {
     Ok(())
 }
 
-/// A market in which a base quantum is worth 5.
-fn first_market() -> MarketParams
-    ensures { IsMarketParams result }
-{
-    MarketParams {
-        atomic: -10,
-        conversion: -9,
-        step: 1_000_000,
-        tick: 100_000,
-        price_exponent: -5,
-        price: 5_000_000_000,
-        initial: 50_000,
-        maintenance: 600_000,
-        impact: 500_000_000,
-        rate_cap: 1_000_000,
-    }
-}
-
 /// A market in which a base quantum is worth 3.
 fn second_market() -> MarketParams
     ensures { IsMarketParams result }
@@ -199,7 +181,7 @@ fn markets(alloc: Global) -> Result<List<MarketParams>, NoMemory>
     ensures { IfOk result (λ ms. (length ms ≤ 32) × All IsMarketParams ms) }
 {
     let mut markets = List::new(alloc);
-    markets.push(first_market())?;
+    markets.push(market())?;
     markets.push(second_market())?;
     Ok(markets)
 }
@@ -208,19 +190,7 @@ fn markets(alloc: Global) -> Result<List<MarketParams>, NoMemory>
 fn genesis(alloc: Global) -> Result<Genesis, NoMemory>
     ensures { IfOk result IsGenesis }
 {
-    Ok(Genesis {
-        time: 0,
-        insurance: 0,
-        params: Params {
-            min_votes: 1,
-            taker_ppm: 500,
-            maker_ppm: 200,
-            liq_cap_ppm: 5_000,
-            spread_ppm: 1_500_000,
-            bankruptcy_ppm: 1_000_000,
-            markets: markets(alloc)?,
-        },
-    })
+    Ok(genesis_of(markets(alloc)?))
 }
 
 /// Whether a state of a genesis has these bytes, and is written as them.

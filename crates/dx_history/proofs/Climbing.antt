@@ -1,5 +1,5 @@
 -- Each good block is one height more, and no height is above the last.
-use Rattle.std.proofs.Common.{◌≡◌, ℕ, ◌+◌, ◌≤◌, Bool, true, false, not, ◌||◌, ◌==◌, cond, nat_lt, List, [], ◌∷◌, ◌++◌, length, None, Ok, refl, sym, ap, ◌∙◌, arith}
+use Rattle.std.proofs.Common.{◌≡◌, ℕ, ◌+◌, ◌≤◌, Bool, true, false, not, ◌||◌, ◌==◌, cond, nat_lt, List, [], ◌∷◌, length, None, Ok, refl, sym, ap, ◌∙◌, arith}
 use Rattle.std.proofs.lemmas.Bool.{or_parts, eqb-true, ltb-false}
 use Rattle.dx_types.specs.declared.Block.{Block}
 use Rattle.dx_types.specs.declared.Genesis.{Genesis}
@@ -11,7 +11,7 @@ use Rattle.dx_spec.specs.Operations.{ops_step}
 use Rattle.dx_spec.specs.Messages.{messages}
 use Rattle.dx_spec.specs.Blocks.{bad, check_header, votes_step, prices_step, take_samples, take_funding, end_step, block_step, fold_from}
 use Rattle.dx_spec.proofs.Steps.{ok_same, true_from_not, passed}
-use Rattle.dx_spec.proofs.Scripts.{passes, unit_passes, stage_passes, stage_next}
+use Rattle.dx_spec.proofs.Scripts.{passes, unit_passes, stage_passes}
 
 one_of : (t : Bool) (s u : State) → u.clock.height ≡ s.clock.height → (cond t s u).clock.height ≡ s.clock.height
 one_of true s u e = refl
@@ -79,11 +79,3 @@ chain_height g bs t e =
     let height = fold_height (genesis_state g) bs t e in
     let low = fold_low (genesis_state g) bs t (omega arith) e in
     (omega (arith, height), omega (arith, height, low))
-
--- one more block that is good behind good ones
-pub fold_one_more : (s : State) (bs : List Block) (t : State) (b : Block) (r : State × List ℕ) → fold_from s bs ≡ Ok t → block_step t b ≡ Ok r → fold_from s (bs ++ b ∷ []) ≡ Ok r.0
-unfolding fold_from
-fold_one_more s [] t b r e good = stage_next (block_step s b) r (λ after. Ok after.0) (ap (λ (u : State). block_step u b) (ok_same s t e) ∙ good)
-fold_one_more s (x ∷ bs) t b r e good =
-    let a = stage_passes (block_step s x) (λ after. fold_from after.0 bs) t e in
-    stage_next (block_step s x) a.0 (λ after. fold_from after.0 (bs ++ b ∷ [])) a.1 ∙ fold_one_more a.0.0 bs t b r a.2 good

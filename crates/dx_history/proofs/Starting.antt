@@ -23,7 +23,8 @@ use Rattle.dx_history.specs.Chains.{row_at, AreRowsOf, Unkept, BadAt, OtherGenes
 use Rattle.dx_history.proofs.Reading.{given_by}
 use Rattle.dx_history.proofs.Growing.{own_row, other_row, grown, apart_from}
 use Rattle.dx_history.proofs.Counting.{same_count, row_there, chain_counted, no_others, no_rows}
-use Rattle.dx_history.proofs.Climbing.{block_height, chain_height, fold_one_more}
+use Rattle.dx_spec.proofs.Folds.{fold_more}
+use Rattle.dx_history.proofs.Climbing.{block_height, chain_height}
 use Rattle.dx_history.proofs.Chained.{chain_kept}
 
 -- ---- a chain is read
@@ -186,7 +187,7 @@ pub chain_grown : (rows : Rows) (node : ℕ) (g : Genesis) (bs : List Block) (s 
 chain_grown rows node g bs s b r h e good fits =
     let next : b.height ≡ length bs + 1 = (block_height s b r good).0 ∙ ap (λ (n : ℕ). n + 1) (chain_height g bs s e).0 in
     let are = grown rows node g bs b h.rows_are next in
-    let more = fold_one_more (genesis_state g) bs s b r e good in
+    let more = fold_more (genesis_state g) bs s b r e good in
     record {
       rows_are = are;
       count = chain_counted (map.insert rows (place_of node b.height) (block_bytes b)) node g (bs ++ b ∷ []) are (chain_height g (bs ++ b ∷ []) r.0 more).1;

@@ -1,56 +1,23 @@
 //! Votes that were worked out by hand, over a plain state.
 
 ghost use Rattle.std.specs.Prelude.{◌<◌, ◌≤◌, ◌^◌, IsTrue, IfOk};
-ghost use Rattle.dx_spec.specs.Genesis.{IsGenesis};
 ghost use Rattle.dx_impact.specs.Ranges.{HasMarket, HasPrices, IsPriced};
 
 use crate::{impact_base, vote};
 use dx_book::Book;
+use dx_sample::genesis;
 use dx_state::PlainState;
-use dx_types::{Genesis, Kind, List, MarketParams, NoMemory, Order, OrderId, Params, SubaccountId};
+use dx_types::{Kind, NoMemory, Order, OrderId, SubaccountId};
 use std::alloc::Global;
 use std::process::Abort;
 use std::test::Fail;
-
-// One market, in which a base quantum at a price of 5,000,000,000 is worth 5, with an impact of 500,000,000.
-fn genesis(alloc: Global) -> Result<Genesis, NoMemory>
-    ensures { IfOk result IsGenesis }
-{
-    let mut markets = List::new(alloc);
-    markets.push(MarketParams {
-        atomic: -10,
-        conversion: -9,
-        step: 1_000_000,
-        tick: 100_000,
-        price_exponent: -5,
-        price: 5_000_000_000,
-        initial: 50_000,
-        maintenance: 600_000,
-        impact: 500_000_000,
-        rate_cap: 1_000_000,
-    })?;
-    Ok(Genesis {
-        time: 0,
-        insurance: 0,
-        params: Params {
-            min_votes: 1,
-            taker_ppm: 500,
-            maker_ppm: 200,
-            liq_cap_ppm: 5_000,
-            spread_ppm: 1_500_000,
-            bankruptcy_ppm: 1_000_000,
-            markets,
-        },
-    })
-}
 
 // The state before the first block.
 #[tactic(auto, using(crate::proofs::Starting::genesis_has_market))]
 fn start(alloc: Global) -> Result<PlainState, NoMemory>
     ensures { IfOk result (λ s. HasMarket s.markets 0) }
 {
-    let g = genesis(alloc)?;
-    PlainState::genesis(alloc, &g)
+    PlainState::genesis(alloc, &genesis(alloc)?)
 }
 
 // An order of the account of an owner in market 0.

@@ -1,6 +1,6 @@
 -- The blocks of a node's rows, read one after another.
 use Rattle.std.proofs.Common.{◌≡◌, ℕ, suc, ◌+◌, ◌-◌, ◌<◌, ◌≤◌, List, [], ◌∷◌, Option, Some, None, Result, Ok, Err, refl, sym, ap, subst, ◌∙◌, arith}
-use Rattle.std.specs.Prelude.{Bool, true, false, cond, ◌==◌, IfSome, IfErr, ok_or, option_map}
+use Rattle.std.specs.Prelude.{Bool, false, cond, ◌==◌, IfSome, IfErr, ok_or, option_map}
 use Rattle.std.specs.FinMap.{get}
 use Rattle.std.proofs.lemmas.Bool.Decides.{nat_tests}
 use Rattle.dx_types.specs.declared.Genesis.{Genesis}

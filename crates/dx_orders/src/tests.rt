@@ -5,37 +5,9 @@ use crate::{
     OrderFault, check_form, check_order, check_stateful, crosses, is_amount, is_filled_up, is_ioc,
     is_post_only, is_same_account, is_same_id, is_same_order, is_same_side,
 };
-use dx_types::{
-    Kind, List, MarketParams, NoMemory, Order, OrderId, Params, STATEFUL, SubaccountId,
-};
-use std::alloc::Global;
+use dx_sample::genesis;
+use dx_types::{Kind, Order, OrderId, STATEFUL, SubaccountId};
 use std::test::Fail;
-
-/// One market, of steps of 1,000,000 base quantums and ticks of 100,000 subticks.
-fn params(alloc: Global) -> Result<Params, NoMemory> {
-    let mut markets = List::new(alloc);
-    markets.push(MarketParams {
-        atomic: -10,
-        conversion: -9,
-        step: 1_000_000,
-        tick: 100_000,
-        price_exponent: -5,
-        price: 5_000_000_000,
-        initial: 50_000,
-        maintenance: 600_000,
-        impact: 500_000_000,
-        rate_cap: 1_000_000,
-    })?;
-    Ok(Params {
-        min_votes: 1,
-        taker_ppm: 500,
-        maker_ppm: 200,
-        liq_cap_ppm: 5_000,
-        spread_ppm: 1_500_000,
-        bankruptcy_ppm: 1_000_000,
-        markets,
-    })
-}
 
 /// A bid for two steps.
 fn bid(flags: u32) -> Order {
@@ -70,7 +42,7 @@ const TEXTS: [(OrderFault, &str); 4] = [
 
 #[test]
 fn orders_are_tested(rt: HostRuntime) -> Result<(), Fail> {
-    let p = params(rt.alloc())?;
+    let p = genesis(rt.alloc())?.params;
     let o = bid(0);
     assert_eq!(rt; check_form(&p, true, 2, &o), Ok(()));
     assert!(rt; is_filled_up(&p, 1_000_001, &o));

@@ -1,50 +1,15 @@
 //! Blocks on the state of a genesis: the parts that can be bad, and what a good block leaves.
 
 ghost use Rattle.std.specs.Prelude.{IfOk};
-ghost use Rattle.dx_spec.specs.Genesis.{IsGenesis};
 ghost use Rattle.dx_rules.specs.Settled.{IsSettled};
 
 use crate::{BlockFault, apply_block, check_block, genesis_is_settled};
 use dx_ledger::Ledger;
+use dx_sample::genesis;
 use dx_state::PlainState;
-use dx_types::{
-    Block, Genesis, List, MarketParams, Markets, Msg, NoMemory, Params, PriceUpdate, SubaccountId,
-    Vote,
-};
+use dx_types::{Block, List, Markets, Msg, NoMemory, PriceUpdate, SubaccountId, Vote};
 use std::alloc::Global;
 use std::process::Abort;
-
-// A genesis with one market, in which a base quantum is worth 5.
-fn genesis(alloc: Global) -> Result<Genesis, NoMemory>
-    ensures { IfOk result IsGenesis }
-{
-    let mut markets = List::new(alloc);
-    markets.push(MarketParams {
-        atomic: -10,
-        conversion: -9,
-        step: 1_000_000,
-        tick: 100_000,
-        price_exponent: -5,
-        price: 5_000_000_000,
-        initial: 50_000,
-        maintenance: 600_000,
-        impact: 500_000_000,
-        rate_cap: 1_000_000,
-    })?;
-    Ok(Genesis {
-        time: 0,
-        insurance: 0,
-        params: Params {
-            min_votes: 1,
-            taker_ppm: 500,
-            maker_ppm: 200,
-            liq_cap_ppm: 5_000,
-            spread_ppm: 1_500_000,
-            bankruptcy_ppm: 1_000_000,
-            markets,
-        },
-    })
-}
 
 // The state before the first block.
 fn start(alloc: Global) -> Result<PlainState, NoMemory>

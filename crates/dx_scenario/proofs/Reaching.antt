@@ -1,6 +1,6 @@
 -- An event's node is one of the nodes, its slot one of the slots, and the id of a cancel has no flags.
 use Rattle.std.proofs.Common.{◌≡◌, ◌-◌, ◌<◌, ◌≤◌, ℕ, List, Bool, true, false, ◌&&◌, cond, refl, subst, arith}
-use Rattle.std.specs.Prelude.{Option, Result, Ok, Err, IfOk, nat_le, option_and_then}
+use Rattle.std.specs.Prelude.{Result, Ok, Err, IfOk, nat_le, option_and_then}
 use Rattle.std.proofs.lemmas.Bool.{leb-true}
 use Rattle.serde_json.specs.Data.{Data}
 use Rattle.serde_json.specs.Find.{as_number, as_u64}

@@ -7,3 +7,4 @@ pub mod Scripts
 pub mod Places
 pub mod Entries
 pub mod Each
+pub mod Folds

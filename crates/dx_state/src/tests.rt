@@ -1,12 +1,11 @@
-ghost use Rattle.std.specs.Prelude.{IfOk};
 ghost use Rattle.dx_ledger.specs.Marks.{KeepsMarks};
-ghost use Rattle.dx_spec.specs.Genesis.{IsGenesis};
 
 use crate::PlainState;
 use dx_ledger::{Branch, Ledger};
+use dx_sample::genesis;
 use dx_types::{
-    Account, FillRecord, Genesis, Kind, List, MarketInfo, MarketParams, Markets, NoMemory, Order,
-    OrderId, Params, Position, SubaccountId,
+    Account, FillRecord, Kind, MarketInfo, Markets, NoMemory, Order, OrderId, Position,
+    SubaccountId,
 };
 use std::alloc::Global;
 use std::process::Abort;
@@ -34,38 +33,6 @@ fn holder(size: i64) -> Account {
         index: 0,
     });
     account
-}
-
-// A genesis of one market.
-fn genesis(alloc: Global) -> Result<Genesis, NoMemory>
-    ensures { IfOk result IsGenesis }
-{
-    let mut markets = List::new(alloc);
-    markets.push(MarketParams {
-        atomic: -10,
-        conversion: -9,
-        step: 1_000_000,
-        tick: 100_000,
-        price_exponent: -5,
-        price: 5_000_000_000,
-        initial: 50_000,
-        maintenance: 600_000,
-        impact: 500_000_000,
-        rate_cap: 120_000,
-    })?;
-    Ok(Genesis {
-        time: 100,
-        insurance: 7,
-        params: Params {
-            min_votes: 1,
-            taker_ppm: 500,
-            maker_ppm: 200,
-            liq_cap_ppm: 10_000,
-            spread_ppm: 1_000_000,
-            bankruptcy_ppm: 1_000_000,
-            markets,
-        },
-    })
 }
 
 // Lets an order stand where there is room.

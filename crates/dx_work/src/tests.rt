@@ -1,13 +1,11 @@
 ghost use Rattle.std.specs.Prelude.{◌≡◌, None, IfOk};
-ghost use Rattle.dx_spec.specs.Genesis.{IsGenesis};
 ghost use Rattle.dx_work.specs.Lines.{aside_of};
 
 use crate::Work;
 use dx_ledger::{Branch, Ledger};
+use dx_sample::genesis;
 use dx_state::PlainState;
-use dx_types::{
-    Account, FillRecord, Genesis, List, MarketParams, NoMemory, OrderId, Params, SubaccountId,
-};
+use dx_types::{Account, FillRecord, NoMemory, OrderId, SubaccountId};
 use std::alloc::Global;
 use std::process::Abort;
 use std::test::Fail;
@@ -23,38 +21,6 @@ fn order_id(owner: u32) -> OrderId {
         flags: 0,
         market: 0,
     }
-}
-
-// A genesis of one market.
-fn genesis(alloc: Global) -> Result<Genesis, NoMemory>
-    ensures { IfOk result IsGenesis }
-{
-    let mut markets = List::new(alloc);
-    markets.push(MarketParams {
-        atomic: -10,
-        conversion: -9,
-        step: 1_000_000,
-        tick: 100_000,
-        price_exponent: -5,
-        price: 5_000_000_000,
-        initial: 50_000,
-        maintenance: 600_000,
-        impact: 500_000_000,
-        rate_cap: 120_000,
-    })?;
-    Ok(Genesis {
-        time: 100,
-        insurance: 7,
-        params: Params {
-            min_votes: 1,
-            taker_ppm: 500,
-            maker_ppm: 200,
-            liq_cap_ppm: 10_000,
-            spread_ppm: 1_000_000,
-            bankruptcy_ppm: 1_000_000,
-            markets,
-        },
-    })
 }
 
 // A state with so many accounts; the least number is 1,000.

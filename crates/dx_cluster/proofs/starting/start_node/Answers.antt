@@ -1,4 +1,4 @@
-use Rattle.std.proofs.Common.{◌≡◌, sym, subst, Some, IfErr}
+use Rattle.std.proofs.Common.{◌≡◌, sym, subst, IfErr}
 use Rattle.std.proofs.lemmas.Result.{err_from_is_err_and}
 use Rattle.dx_node_spec.specs.Node.{new_node}
 use Rattle.dx_cluster.specs.declared.fault.StartFault.{StartFault}

@@ -1,6 +1,4 @@
-use Rattle.std.proofs.Common.{rules, ◌≡◌, ◌-◌, suc, Some, IfErr}
-use Rattle.dx_types.specs.declared.Genesis.{Genesis}
-use Rattle.dx_io.specs.Rows.{Rows}
+use Rattle.std.proofs.Common.{rules, ◌-◌, IfErr}
 use Rattle.dx_history.specs.Chains.{kept_from}
 use Rattle.dx_node.specs.Starts.{IsUnkept}
 use Rattle.dx_node.proofs.Started.{way_next, way_last, way_refused, adds_before, read_on}

@@ -1,7 +1,6 @@
 use Rattle.std.proofs.Common.{◌≡◌, ◌++◌, ◌∷◌, [], List, length, arith, refl, ap, ◌∙◌, IfErr}
 use Rattle.std.proofs.lemmas.Result.{err_from_is_err_and}
 use Rattle.dx_node.specs.Held.{Held}
-use Rattle.dx_cluster.specs.declared.fault.StartFault.{StartFault}
 use Rattle.dx_cluster.specs.declared.fault.StartFault.TheVariants as starts
 use Rattle.dx_cluster.proofs.Beginning.{opens, opens_some, open_fails, open_ends, some_more, started_more, one_more, err_told, err_follows}
 use Rattle.dx_cluster.proofs.cluster.Cluster.open.Goals as goal

@@ -1,7 +1,6 @@
 use Rattle.std.proofs.Common.{rules, ◌≡◌, refl, subst, ◌∙◌, IfErr}
 use Rattle.std.specs.Prelude.{IfSome}
 use Rattle.dx_types.specs.declared.Genesis.{Genesis}
-use Rattle.dx_io.specs.Rows.{Rows}
 use Rattle.dx_history.specs.Chains.{kept}
 use Rattle.dx_trade.proofs.Steps.{if_err}
 use Rattle.dx_work.specs.Lines.{committed}
