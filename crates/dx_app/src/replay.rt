@@ -132,7 +132,6 @@ fn answer_line<W: Sink, K: Keeper>(
 
 /// Reads the next line, executes it and writes the reply, or says how the run ends.
 fn next_reply<S: Source, W: Sink, K: Keeper>(
-    alloc: Global,
     cluster: &mut Cluster,
     number: u64,
     reader: &mut LineReader,
@@ -162,6 +161,7 @@ fn next_reply<S: Source, W: Sink, K: Keeper>(
     ensures caused { IfErr result (Caused (S.faults source.old) (S.faults source.new)
         (W.faults sink.old) (W.faults sink.new) (K.faults keeper.old) (K.faults keeper.new)) }
 {
+    let alloc = *line.allocator();
     let cut = match reader.next_line(source, line) {
         Ok(cut) => cut,
         Err(error) => return Err(end_reading(error)),
@@ -246,9 +246,7 @@ pub fn replay_lines<S: Source, W: Sink, K: Keeper>(
 {
     let mut line = Vec::new(alloc);
     'lines: for number in 2..LINES_END {
-        match next_reply(
-            alloc, cluster, number, reader, source, &mut line, sink, keeper,
-        ) {
+        match next_reply(cluster, number, reader, source, &mut line, sink, keeper) {
             Ok(()) => {}
             Err(status) => return status,
         }

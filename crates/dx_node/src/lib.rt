@@ -16,9 +16,9 @@
 //! (`specs/Restarts`). Where a call fails, the node and the rows are as before. A stateful order that rests stands in
 //! the state after the queue ([`resting_stand`]).
 //!
-//! After [`Node::commit`] a list of orders is to be placed again: [`Node::replay_next`] places the first of them, and
-//! [`Node::pending`] tells how many are left. After [`Node::restart`] it is that of the stateful orders. All calls but
-//! these, a restart and the reads are made where none is left.
+//! After [`Node::commit`] a list of orders is to be placed again, and after [`Node::restart`] all stateful orders:
+//! [`Node::replay_next`] places the first of the list, and [`Node::pending`] tells how many are left. All other calls
+//! but a restart and the reads are made where none is left.
 //! The type keeps (`specs/Held`) that the queue leads to the speculative state, that each order of the book may rest in
 //! it, and that no order of the list rests before it is placed.
 #![tactic(auto)]

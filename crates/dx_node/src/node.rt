@@ -231,13 +231,11 @@ impl Node {
         ensures later { K.faults keeper.old ≤ K.faults keeper.new }
         ensures failed { IsErrOf result CommitFault.KeepFault → Rose (K.faults keeper.old) (K.faults keeper.new) }
     {
-        let alloc = self.allocator();
         let After {
             results,
             again,
             pool,
         } = commit_block(
-            alloc,
             &mut self.work,
             &self.queue,
             &self.book,
