@@ -8,3 +8,5 @@ pub mod Places
 pub mod Entries
 pub mod Each
 pub mod Folds
+pub mod Triggers
+pub mod Same

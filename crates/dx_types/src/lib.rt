@@ -15,7 +15,7 @@
 mod accounts;
 mod copies;
 mod keys;
-/// The limits of the rules ("Limits" in docs/RULES.md), as constants that code tests by.
+/// The units and the limits of the rules ("Units", "Limits" in docs/RULES.md), as constants that code tests by.
 pub mod limits;
 mod list;
 mod markets;
@@ -27,7 +27,7 @@ use arrayvec::ArrayVec;
 pub use list::List;
 pub use markets::Markets;
 pub use no_memory::NoMemory;
-pub use orders::{SHORT_TERM, STATEFUL};
+pub use orders::{CONDITIONAL, LONG_TERM, SHORT_TERM};
 pub use status::Status;
 
 /// The name of an account: one of an owner's subaccounts. Ordered by owner, then by number.
@@ -46,7 +46,7 @@ pub struct OrderId {
     pub who: SubaccountId,
     /// The number that the account's client chose.
     pub client: u32,
-    /// 0 for a short-term order, 64 for a stateful one.
+    /// 0 for a short-term order; of the stateful ones, 32 for a conditional and 64 for a long-term order.
     pub flags: u32,
     /// The market.
     pub market: u32,
@@ -61,6 +61,8 @@ pub enum Kind {
     Ioc,
     /// Only to rest: it is refused where it would be filled at once.
     PostOnly,
+    /// Immediate or cancel, and reduce-only: it closes at most the position that its account has.
+    ReduceIoc,
 }
 
 /// An order to buy or to sell.
@@ -183,8 +185,37 @@ pub enum Msg {
     },
     /// Lets a stateful order stand in the state.
     PlaceStateful(Order),
-    /// Drops a stateful order.
+    /// Drops a stateful order, standing or waiting.
     CancelStateful(OrderId),
+    /// Lets an order wait in the state until its market's price meets a trigger.
+    PlaceConditional {
+        /// The order that stands from then on.
+        order: Order,
+        /// Whether a price at the trigger or above it meets it; else one at the trigger or below it does.
+        above: bool,
+        /// The price, from 1 to 2^48 − 1.
+        trigger: u64,
+    },
+}
+
+/// A conditional order that waits in the state.
+#[derive(Clone, Copy, Debug, PartialEq, Eq)]
+pub struct Waiting {
+    /// The order that stands once the price of its market meets the trigger.
+    pub order: Order,
+    /// Whether a price at the trigger or above it meets it; else one at the trigger or below it does.
+    pub above: bool,
+    /// The price, from 1 to 2^48 − 1.
+    pub trigger: u64,
+}
+
+/// A resting order, as a book shows it.
+#[derive(Clone, Copy, Debug, PartialEq, Eq)]
+pub struct Shown {
+    /// The order.
+    pub order: Order,
+    /// What is left of it: base quantums.
+    pub left: u64,
 }
 
 /// A premium vote for a market.
@@ -246,6 +277,12 @@ pub struct MarketParams {
     pub impact: u64,
     /// The greatest magnitude of a funding rate, in ppm for 8 hours, from 0 to 1,000,000.
     pub rate_cap: u32,
+    /// The value of the open interest up to which the initial margin is not scaled: quote quantums,
+    /// from 1; 0 where the genesis scales none.
+    pub lower: u64,
+    /// The value of the open interest from which the initial margin is the whole value: quote quantums,
+    /// above `lower` and at most 2^56 − 1; 0 where the genesis scales none.
+    pub upper: u64,
 }
 
 /// What the genesis says of fees, liquidations, votes and markets.
@@ -267,6 +304,9 @@ pub struct Params {
     pub bankruptcy_ppm: u32,
     /// At most 32 markets. A market's number is its place.
     pub markets: List<MarketParams>,
+    /// The height from which on initial margins are scaled by open interest, from 1 to 4,000,000,000;
+    /// none where they never are.
+    pub scale_from: Option<u32>,
 }
 
 /// What a chain starts from.

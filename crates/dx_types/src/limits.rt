@@ -1,4 +1,7 @@
-//! The limits of the rules ("Limits" in docs/RULES.md).
+//! The units and the limits of the rules ("Units" and "Limits" in docs/RULES.md).
+
+/// A quote quantum is a millionth of the settlement currency: a unit of it has so many decimals.
+pub const QUOTE_DECIMALS: i32 = 6;
 
 /// A size, an amount, a filled amount, an open interest (base quantums) and a price stay below this.
 pub const SIZE_LIMIT: u64 = 1 << 48;
@@ -59,7 +62,7 @@ pub const MOST_VOTES: usize = 60;
 /// A state may keep so many accounts.
 pub const MOST_ACCOUNTS: usize = 65_536;
 
-/// So many orders may rest in a book.
+/// So many orders may rest in a book, and so many may stand and wait together in a state.
 pub const MOST_ORDERS: usize = 65_536;
 
 /// A block may have so many operations.
