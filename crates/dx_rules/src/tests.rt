@@ -3,11 +3,14 @@
 ghost use Rattle.std.specs.Prelude.{IfOk};
 ghost use Rattle.dx_rules.specs.Settled.{IsSettled};
 
-use crate::{BlockFault, apply_block, check_block, genesis_is_settled};
-use dx_ledger::Ledger;
+use crate::{Applied, BlockFault, apply_block, check_block, genesis_is_settled};
+use dx_ledger::{Branch, Ledger};
 use dx_sample::genesis;
 use dx_state::PlainState;
-use dx_types::{Block, List, Markets, Msg, NoMemory, PriceUpdate, SubaccountId, Vote};
+use dx_types::{
+    Block, CONDITIONAL, Kind, List, Markets, Msg, NoMemory, Order, OrderId, PriceUpdate,
+    SubaccountId, Vote,
+};
 use std::alloc::Global;
 use std::process::Abort;
 
@@ -48,7 +51,7 @@ fn block(
     })
 }
 
-fn fault_of(applied: &Result<List<u32>, BlockFault>) -> Option<BlockFault> {
+fn fault_of(applied: &Result<Applied, BlockFault>) -> Option<BlockFault> {
     match applied {
         Ok(_) => None,
         Err(fault) => Some(*fault),
@@ -104,7 +107,7 @@ fn outcome(rt: &impl Abort, alloc: Global, block: &Block, results: &[u32], sampl
         Ok(mut s) => {
             assert!(rt; check_block(alloc, &mut s, block).is_ok());
             match apply_block(alloc, &mut s, block) {
-                Ok(list) => assert!(rt; list.as_slice() == results),
+                Ok(applied) => assert!(rt; applied.results.as_slice() == results),
                 Err(fault) => assert!(rt; false, "refused: {fault:?}"),
             }
             assert!(rt; s.votes(0).is_empty());
@@ -120,5 +123,72 @@ fn vote_becomes_a_sample(rt: HostRuntime) {
     match block(alloc, (1, 60), 2, (0, -480), 7) {
         Ok(block) => outcome(&rt, alloc, &block, &[0, 0], -480),
         Err(NoMemory) => assert!(rt; false, "no memory for the block"),
+    }
+}
+
+// The client's conditional order: it buys a step once the price is at the trigger or above it.
+const WAITING: Order = Order {
+    id: OrderId {
+        who: SubaccountId {
+            owner: 0,
+            number: 0,
+        },
+        client: 1,
+        flags: CONDITIONAL,
+        market: 0,
+    },
+    buy: true,
+    size: 1_000_000,
+    subticks: 5_100_000_000,
+    until: 100,
+    kind: Kind::Gtc,
+};
+
+// A block of one deposit, the conditional order and a price.
+fn conditional_block(alloc: Global, price: u64) -> Result<Block, NoMemory> {
+    let mut made = block(alloc, (1, 1), 1, (0, 0), price)?;
+    made.msgs.push(Msg::PlaceConditional {
+        order: WAITING,
+        above: true,
+        trigger: 5_050_000_000,
+    })?;
+    Ok(made)
+}
+
+// How many orders each of two blocks triggers.
+fn triggered_by<L: Branch>(
+    alloc: Global,
+    l: &mut L,
+    first: &Block,
+    second: &Block,
+) -> Result<(usize, usize), BlockFault>
+    requires { IsSettled (L.content l.old) }
+{
+    let before = apply_block(alloc, l, first)?;
+    let after = apply_block(alloc, l, second)?;
+    Ok((before.triggered.len(), after.triggered.len()))
+}
+
+// A block in which the client's order is to wait, and one whose price meets its trigger.
+fn waiting_blocks(alloc: Global) -> Result<(Block, Block), NoMemory> {
+    let first = conditional_block(alloc, 5_049_999_999)?;
+    let second = block(alloc, (2, 2), 0, (0, 0), 5_050_000_000)?;
+    Ok((first, second))
+}
+
+#[test]
+fn order_waits_for_its_price(rt: HostRuntime) {
+    let alloc = rt.alloc();
+    let Ok(blocks) = waiting_blocks(alloc) else {
+        return assert!(rt; false, "no memory for the blocks");
+    };
+    match start(alloc) {
+        Ok(mut s) => {
+            let triggered = triggered_by(alloc, &mut s, &blocks.0, &blocks.1);
+            assert_eq!(rt; triggered, Ok((0, 1)));
+            assert!(rt; s.waiting(&WAITING.id).is_none());
+            assert!(rt; s.stateful(&WAITING.id) == Some(WAITING));
+        }
+        Err(NoMemory) => assert!(rt; false, "no memory for the state"),
     }
 }
