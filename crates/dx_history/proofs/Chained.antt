@@ -11,7 +11,7 @@ use Rattle.dx_types.specs.declared.Genesis.{Genesis}
 use Rattle.dx_types.specs.declared.Bad.{Bad}
 use Rattle.dx_spec.specs.Step.{◌>>=◌}
 use Rattle.dx_spec.specs.State.{State, genesis_state}
-use Rattle.dx_spec.specs.Blocks.{block_step, fold_from, fold_blocks}
+use Rattle.dx_spec.specs.Blocks.{Applied, block_step, fold_from, fold_blocks}
 use Rattle.dx_io.specs.Rows.{Rows, row_count}
 use Rattle.dx_codec.specs.Blocks.{block_bytes, FitsBlock}
 use Rattle.dx_codec.specs.Genesis.{digest_of}
@@ -20,14 +20,14 @@ use Rattle.dx_history.specs.Chains.{Unkept, BadAt, OtherGenesis, AreRowsOf, behi
 use Rattle.dx_history.proofs.Reading.{gives_block}
 
 -- a block that is there and is good goes before those above it
-one_kept : (rows : Rows) (node done : ℕ) (bs : List Block) (b : Block) (s t : State) (r : Result (State × List ℕ) Bad) → block_step s b ≡ r
+one_kept : (rows : Rows) (node done : ℕ) (bs : List Block) (b : Block) (s t : State) (r : Result Applied Bad) → block_step s b ≡ r
     → (r >>= λ after. fold_from after.0 bs) ≡ Ok t → block_at rows node (suc done) ≡ Some b
     → ((u : State) → fold_from u bs ≡ Ok t → kept_from u rows node (suc (suc done)) (length bs) ≡ Ok bs)
     → kept_from s rows node (suc done) (suc (length bs)) ≡ Ok (b ∷ bs)
 unfolding kept_from
 one_kept rows node done bs b s t (Ok after) step e here above =
     ap (λ (o : Option Block). ok_or (good_on s o) (BadAt (suc done)) >>= λ k. behind k.0 (kept_from k.1 rows node (suc done + 1) (length bs))) here
-    ∙ ap (λ (q : Result (State × List ℕ) Bad). ok_or (option_map {T = State} {U = Block × State} (λ u. (b, u)) (after_good q)) (BadAt (suc done)) >>= λ k. behind k.0 (kept_from k.1 rows node (suc done + 1) (length bs))) step
+    ∙ ap (λ (q : Result Applied Bad). ok_or (option_map {T = State} {U = Block × State} (λ u. (b, u)) (after_good q)) (BadAt (suc done)) >>= λ k. behind k.0 (kept_from k.1 rows node (suc done + 1) (length bs))) step
     ∙ ap (λ (h : ℕ). behind b (kept_from after.0 rows node h (length bs))) (next done)
     ∙ ap (behind b) (above after.0 e)
   where

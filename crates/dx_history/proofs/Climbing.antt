@@ -9,7 +9,7 @@ use Rattle.dx_spec.specs.State.{State, genesis_state}
 use Rattle.dx_spec.specs.Bounds.{last_moment}
 use Rattle.dx_spec.specs.Operations.{ops_step}
 use Rattle.dx_spec.specs.Messages.{messages}
-use Rattle.dx_spec.specs.Blocks.{bad, check_header, votes_step, prices_step, take_samples, take_funding, end_step, block_step, fold_from}
+use Rattle.dx_spec.specs.Blocks.{bad, check_header, votes_step, prices_step, triggered_by, take_samples, take_funding, end_step, Applied, block_step, fold_from}
 use Rattle.dx_spec.proofs.Steps.{ok_same, true_from_not, passed}
 use Rattle.dx_spec.proofs.Scripts.{passes, unit_passes, stage_passes}
 
@@ -37,7 +37,7 @@ header_height s b e =
     (eqb-true b.height (s.clock.height + 1) (true_from_not (b.height == s.clock.height + 1) i.0), ltb-false last_moment b.height i.1)
 
 -- a good block is at the next height, which is not above the last, and leaves the state there
-pub block_height : (s : State) (b : Block) (r : State × List ℕ) → block_step s b ≡ Ok r
+pub block_height : (s : State) (b : Block) (r : Applied) → block_step s b ≡ Ok r
     → (b.height ≡ s.clock.height + 1) × ((b.height ≤ last_moment) × (r.0.clock.height ≡ b.height))
 unfolding block_step
 block_height s b r e =
@@ -46,8 +46,8 @@ block_height s b r e =
     let c = stage_passes (ops_step s b.height b.ops) _ r a.1 in
     let d = stage_passes (votes_step None 0 b.votes (messages c.0 b.time b.msgs).0) _ r c.2 in
     let f = stage_passes (prices_step None 0 b.prices d.0) _ r d.2 in
-    let last = ok_same (end_step f.0 b.height b.time, (messages c.0 b.time b.msgs).1) r f.2 in
-    (h.0, (h.1, ap (λ (x : State × List ℕ). x.0.clock.height) (sym last) ∙ end_height f.0 b.height b.time))
+    let last = ok_same (end_step f.0 b.height b.time, (messages c.0 b.time b.msgs).1, triggered_by f.0 b.height b.time) r f.2 in
+    (h.0, (h.1, ap (λ (x : Applied). x.0.clock.height) (sym last) ∙ end_height f.0 b.height b.time))
 
 -- so blocks that are good one after the other are as many as heights
 pub fold_height : (s : State) (bs : List Block) (t : State) → fold_from s bs ≡ Ok t → t.clock.height ≡ s.clock.height + length bs

@@ -8,12 +8,13 @@ use Rattle.std.proofs.lemmas.Bool.{eqb-true, ltb-false}
 use Rattle.std.proofs.lemmas.Bool.Decides.{nat_tests}
 use Rattle.std.proofs.lemmas.Slice.Eq.{bytes_eq-Decides}
 use Rattle.std.proofs.lemmas.Option.{slice_get_past}
+use Rattle.dx_types.specs.declared.OrderId.{OrderId}
 use Rattle.dx_types.specs.declared.Block.{Block}
 use Rattle.dx_types.specs.declared.Genesis.{Genesis}
 use Rattle.dx_types.specs.declared.Bad.{Bad}
 use Rattle.dx_spec.specs.Step.{◌>>=◌}
 use Rattle.dx_spec.specs.State.{State, genesis_state}
-use Rattle.dx_spec.specs.Blocks.{block_step, fold_from, fold_blocks}
+use Rattle.dx_spec.specs.Blocks.{Applied, block_step, fold_from, fold_blocks}
 use Rattle.dx_spec.proofs.Each.{all_push}
 use Rattle.dx_io.specs.Rows.{Rows, row_count}
 use Rattle.dx_codec.specs.Blocks.{block_bytes, FitsBlock}
@@ -45,15 +46,15 @@ pub record IsRead (s : State) (rows : Rows) (node height count : ℕ) (bs : List
   pub good : is_ok (fold_from s bs) ≡ true
   pub each : (n : ℕ) → n < count → map.get rows (place_of node (height + n)) ≡ option_map block_bytes (slice_get bs n)
 
-one_more : (s u : State) (rows : Rows) (node height more : ℕ) (b : Block) (bs : List Block) (told : List ℕ) → block_at rows node height ≡ Some b → block_step s b ≡ Ok (u, told)
+one_more : (s u : State) (rows : Rows) (node height more : ℕ) (b : Block) (bs : List Block) (told : List ℕ) (ids : List OrderId) → block_at rows node height ≡ Some b → block_step s b ≡ Ok (u, told, ids)
     → IsRead u rows node (height + 1) more bs → IsRead s rows node height (suc more) (b ∷ bs)
 unfolding fold_from
-one_more s u rows node height more b bs told found step h =
+one_more s u rows node height more b bs told ids found step h =
     let row = given_by (map.get rows (place_of node height)) b found in
     record {
       long = ap suc h.long;
       fits = (row.fits, h.fits);
-      good = ap (λ (r : Result (State × List ℕ) Bad). is_ok (r >>= λ after. fold_from after.0 bs)) step ∙ h.good;
+      good = ap (λ (r : Result Applied Bad). is_ok (r >>= λ after. fold_from after.0 bs)) step ∙ h.good;
       each = each row.bytes;
     }
   where
@@ -63,13 +64,13 @@ one_more s u rows node height more b bs told found step h =
         let at : height + suc n ≡ height + 1 + n = omega arith in
         ap (λ (k : ℕ). map.get rows (place_of node k)) at ∙ h.each n (omega (arith, lt))
 
-read_behind : (s u : State) (rows : Rows) (node height more : ℕ) (b : Block) (bs : List Block) (told : List ℕ) (rest : Result (List Block) Unkept)
-    → block_at rows node height ≡ Some b → block_step s b ≡ Ok (u, told)
+read_behind : (s u : State) (rows : Rows) (node height more : ℕ) (b : Block) (bs : List Block) (told : List ℕ) (ids : List OrderId) (rest : Result (List Block) Unkept)
+    → block_at rows node height ≡ Some b → block_step s b ≡ Ok (u, told, ids)
     → ((cs : List Block) → rest ≡ Ok cs → IsRead u rows node (height + 1) more cs) → behind b rest ≡ Ok bs → IsRead s rows node height (suc more) bs
-read_behind s u rows node height more b bs told (Err unkept) found step h e = absurd (cc)
-read_behind s u rows node height more b bs told (Ok cs) found step h e =
+read_behind s u rows node height more b bs told ids (Err unkept) found step h e = absurd (cc)
+read_behind s u rows node height more b bs told ids (Ok cs) found step h e =
     let same : b ∷ cs ≡ bs = cc in
-    subst (IsRead s rows node height (suc more)) same (one_more s u rows node height more b cs told found step (h cs refl))
+    subst (IsRead s rows node height (suc more)) same (one_more s u rows node height more b cs told ids found step (h cs refl))
 
 read_step : (s : State) (rows : Rows) (node height more : ℕ) (bs : List Block) (o : Option Block) → block_at rows node height ≡ o
     → ((u : State) (cs : List Block) → kept_from u rows node (height + 1) more ≡ Ok cs → IsRead u rows node (height + 1) more cs)
@@ -77,12 +78,12 @@ read_step : (s : State) (rows : Rows) (node height more : ℕ) (bs : List Block)
 read_step s rows node height more bs None found rest e = absurd (cc)
 read_step s rows node height more bs (Some b) found rest e = go (block_step s b) refl e
   where
-    go : (r : Result (State × List ℕ) Bad) → block_step s b ≡ r
+    go : (r : Result Applied Bad) → block_step s b ≡ r
         → (ok_or (option_map {T = State} {U = Block × State} (λ u. (b, u)) (after_good r)) (BadAt height) >>= λ k. behind k.0 (kept_from k.1 rows node (height + 1) more)) ≡ Ok bs
         → IsRead s rows node height (suc more) bs
     go (Err bad) step f = absurd (cc)
     go (Ok after) step f =
-        read_behind s after.0 rows node height more b bs after.1 (kept_from after.0 rows node (height + 1) more) found step (λ cs k. rest after.0 cs k) f
+        read_behind s after.0 rows node height more b bs after.1 after.2 (kept_from after.0 rows node (height + 1) more) found step (λ cs k. rest after.0 cs k) f
 
 pub blocks_read : (s : State) (rows : Rows) (node height count : ℕ) (bs : List Block) → kept_from s rows node height count ≡ Ok bs → IsRead s rows node height count bs
 unfolding kept_from fold_from
@@ -182,7 +183,7 @@ read_chain rows node g bs e = go (row_count rows node == 0) refl e
 
 -- ---- a commit
 
-pub chain_grown : (rows : Rows) (node : ℕ) (g : Genesis) (bs : List Block) (s : State) (b : Block) (r : State × List ℕ) → IsChain rows node g bs
+pub chain_grown : (rows : Rows) (node : ℕ) (g : Genesis) (bs : List Block) (s : State) (b : Block) (r : Applied) → IsChain rows node g bs
     → fold_blocks g bs ≡ Ok s → block_step s b ≡ Ok r → FitsBlock b → IsChain (map.insert rows (place_of node b.height) (block_bytes b)) node g (bs ++ b ∷ [])
 chain_grown rows node g bs s b r h e good fits =
     let next : b.height ≡ length bs + 1 = (block_height s b r good).0 ∙ ap (λ (n : ℕ). n + 1) (chain_height g bs s e).0 in

@@ -8,7 +8,7 @@ use Rattle.dx_types.specs.declared.Genesis.{Genesis}
 use Rattle.dx_types.specs.declared.Bad.{Bad}
 use Rattle.dx_spec.specs.Step.{◌>>=◌}
 use Rattle.dx_spec.specs.State.{State, genesis_state}
-use Rattle.dx_spec.specs.Blocks.{block_step, fold_blocks}
+use Rattle.dx_spec.specs.Blocks.{Applied, block_step, fold_blocks}
 use Rattle.dx_io.specs.Rows.{Rows, row_count}
 use Rattle.dx_codec.specs.Blocks.{block_bytes, FitsBlock}
 use Rattle.dx_codec.specs.Genesis.{digest_of}
@@ -34,7 +34,7 @@ behind b (Ok bs) = Ok (b ∷ bs)
 behind b (Err unkept) = Err unkept
 
 -- the state after a block that was good
-abbrev pub after_good : Result (State × List ℕ) Bad → Option State
+abbrev pub after_good : Result Applied Bad → Option State
 after_good (Ok told) = Some told.0
 after_good (Err bad) = None
 

@@ -2,7 +2,7 @@
 
 ghost use Rattle.std.specs.Prelude.{◌≡◌, ◌≢◌, ◌≤◌, Some, Err, IfOk, IsErrOf, OnOk, OnErr, option_map};
 ghost use Rattle.dx_types.specs.declared.Block.{Block as Content};
-ghost use Rattle.dx_io.specs.Causes.{Rose};
+ghost use Rattle.dx_io.specs.Causes.{KeepsCount, Rose};
 ghost use Rattle.dx_io.specs.Rows.{Rows, SameRows, SetsRow};
 ghost use Rattle.dx_codec.specs.Blocks.{block_bytes, FitsBlock};
 ghost use Rattle.dx_codec.specs.Reading.{Reads};
@@ -20,13 +20,14 @@ use std::alloc::Global;
 ///
 /// # Errors
 /// `Failed` only where the keeper's count of faults rose, and `NoMemory` where there is none for the bytes or
-/// for the row. After either the rows are as before.
+/// for the row. After either the rows are as before. A good answer leaves the count.
 #[tactic(auto, using(crate::proofs::Reading::same_rows))]
 pub fn keep_block<K: Keeper>(keeper: &mut K, node: u32, block: &Block) -> Result<(), KeepError>
     ensures set { OnOk result (SetsRow (K.rows keeper.old) (K.rows keeper.new)
         (place_of node block.now.height) (block_bytes block.now)) }
     ensures fits { OnOk result (FitsBlock block.now) }
     ensures err { OnErr result (SameRows (K.rows keeper.old) (K.rows keeper.new)) }
+    ensures good { KeepsCount (K.faults keeper.old) (K.faults keeper.new) result }
     ensures later { K.faults keeper.old ≤ K.faults keeper.new }
     ensures failed { IsErrOf result KeepError.Failed → Rose (K.faults keeper.old) (K.faults keeper.new) }
 {
@@ -60,7 +61,8 @@ fn read_row(row: Option<Vec<u8>>) -> Result<Block, HistoryFault>
 /// # Errors
 /// `Bad`, where the keeper answered, exactly where the row is missing or no block has its bytes: where a block
 /// is kept the answer is not `Bad`, and where none is there is no good answer. `Failed` only where the keeper's
-/// count of faults rose, and `NoMemory` where there is none for the row or the block.
+/// count of faults rose, and `NoMemory` where there is none for the row or the block. A good answer and `Bad` leave
+/// the count.
 pub fn kept_block<K: Keeper>(keeper: &mut K, node: u32, height: u32) -> Result<Block, HistoryFault>
     ensures found { (rows : Rows) → K.rows keeper.old ≡ Some rows → IfOk result (Keeps rows node height) }
     ensures only { (rows : Rows) → K.rows keeper.old ≡ Some rows →
@@ -69,6 +71,8 @@ pub fn kept_block<K: Keeper>(keeper: &mut K, node: u32, height: u32) -> Result<B
         IsErrOf result Bad → (b : Content) → Keeps rows node height b → ⊥ }
     ensures told { (rows : Rows) → K.rows keeper.old ≡ Some rows → Tells result (block_at rows node height) }
     ensures kept { SameRows (K.rows keeper.old) (K.rows keeper.new) }
+    ensures good { KeepsCount (K.faults keeper.old) (K.faults keeper.new) result }
+    ensures still { IsErrOf result Bad → K.faults keeper.new ≡ K.faults keeper.old }
     ensures later { K.faults keeper.old ≤ K.faults keeper.new }
     ensures failed { IsErrOf result Failed → Rose (K.faults keeper.old) (K.faults keeper.new) }
 {

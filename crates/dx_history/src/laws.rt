@@ -5,7 +5,7 @@ ghost use Rattle.std.specs.FinMap as map;
 ghost use Rattle.dx_types.specs.declared.Block.{Block};
 ghost use Rattle.dx_types.specs.declared.Genesis.{Genesis};
 ghost use Rattle.dx_spec.specs.State.{State};
-ghost use Rattle.dx_spec.specs.Blocks.{fold_blocks, block_step};
+ghost use Rattle.dx_spec.specs.Blocks.{Applied, fold_blocks, block_step};
 ghost use Rattle.dx_io.specs.Rows.{Rows};
 ghost use Rattle.dx_codec.specs.Blocks.{block_bytes, FitsBlock};
 ghost use Rattle.dx_history.specs.Rows.{place_of};
@@ -39,7 +39,7 @@ pub fn kept_is_chain()
 /// The law of a commit: a block that is good behind a chain, set at its height, makes the node's rows just those of
 /// the longer chain.
 pub fn chain_grows()
-    ensures { (rows : Rows) (node : ℕ) (g : Genesis) (bs : List Block) (s : State) (b : Block) (r : State × List ℕ) →
+    ensures { (rows : Rows) (node : ℕ) (g : Genesis) (bs : List Block) (s : State) (b : Block) (r : Applied) →
         IsChain rows node g bs → fold_blocks g bs ≡ Ok s → block_step s b ≡ Ok r → FitsBlock b →
         IsChain (map.insert rows (place_of node b.height) (block_bytes b)) node g (bs ++ b ∷ []) }
 {}

@@ -3,7 +3,8 @@
 //! It stands on `dx_io` for the trait of a keeper and on `dx_codec` for the bytes of a block. [`keep_block`]
 //! sets one row, that of a node at the block's height, to the block's bytes. [`kept_block`] gives the block
 //! whose bytes a row has; `Bad` comes exactly where the row is missing or is no block's bytes. `Failed` comes
-//! only where the keeper's count of faults rose, and no call changes a row when it is refused. Both calls take
+//! only where the keeper's count of faults rose, a good answer and `Bad` leave that count, and no call
+//! changes a row when it is refused. Both calls take
 //! memory from the allocator of the block, or of the row.
 //!
 //! What the rows of a node say all together, a chain of blocks that are good from a genesis on or the first
