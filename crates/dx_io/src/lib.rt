@@ -5,7 +5,9 @@
 //! bytes left, the bytes written, the rows. Where it is told, every call says how it changed, and
 //! after an error it is as before. The other is a count of faults, of 64 bits, which never falls;
 //! a count at its end stays there. `Failed` comes only where the count rose (`Rose` of
-//! `specs/Causes`), so code above, which cannot raise the count, cannot make up a fault.
+//! `specs/Causes`), so code above, which cannot raise the count, cannot make up a fault. A good answer
+//! leaves the count (`KeepsCount` there), so code above cannot pass over a fault either: where it
+//! promises the same, a failed call is not tried again.
 //!
 //! - `SureSource`, `SureSink` and `SureKeeper` are in memory and never answer `Failed`; their
 //!   count is 0. They are refused only for memory.

@@ -1,6 +1,6 @@
 ghost use Rattle.std.specs.Prelude.{◌≡◌, ◌↔◌, Some, IfOk, IsErr, IsErrOf, IsTrue, OnOk, OnErr, option_map};
 ghost use Rattle.std.specs.FinMap as map;
-ghost use Rattle.dx_io.specs.Causes.{KeepCause};
+ghost use Rattle.dx_io.specs.Causes.{KeepCause, KeepsCount};
 ghost use Rattle.dx_io.specs.Plans.{fresh_plan, is_next_listed, after_call};
 ghost use Rattle.dx_io.specs.Rows.{SameRows, SetsRow, FindsRow, CountsRows};
 
@@ -67,6 +67,7 @@ impl Keeper for MemKeeper {
             (record { node = node; height = height }) bytes.now) }
         ensures err { OnErr result (SameRows (Some self.old.rows) (Some self.new.rows)) }
         ensures cause { KeepCause self.old.plan.faults self.new.plan.faults result }
+        ensures good { KeepsCount self.old.plan.faults self.new.plan.faults result }
 
         // It fails exactly at the listed calls.
         ensures fails { IsErrOf result KeepError.Failed ↔ IsTrue (is_next_listed self.old.plan) }
@@ -83,6 +84,7 @@ impl Keeper for MemKeeper {
             (record { node = node; height = height }) (option_map (λ bytes. bytes.items) row)) }
         ensures kept { SameRows (Some self.old.rows) (Some self.new.rows) }
         ensures cause { KeepCause self.old.plan.faults self.new.plan.faults result }
+        ensures good { KeepsCount self.old.plan.faults self.new.plan.faults result }
 
         // It fails exactly at the listed calls.
         ensures fails { IsErrOf result KeepError.Failed ↔ IsTrue (is_next_listed self.old.plan) }
@@ -98,6 +100,7 @@ impl Keeper for MemKeeper {
         ensures count { IfOk result (λ n. CountsRows (Some self.old.rows) node n) }
         ensures kept { SameRows (Some self.old.rows) (Some self.new.rows) }
         ensures cause { KeepCause self.old.plan.faults self.new.plan.faults result }
+        ensures good { KeepsCount self.old.plan.faults self.new.plan.faults result }
 
         // It fails exactly at the listed calls, and is refused for nothing else.
         ensures fails { IsErr result ↔ IsTrue (is_next_listed self.old.plan) }

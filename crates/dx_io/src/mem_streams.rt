@@ -1,7 +1,7 @@
 ghost use Rattle.std.specs.Prelude.{◌≡◌, ◌<◌, ◌↔◌, [], Some, min, length, IfOk, IsErr, IsErrOf, IsTrue};
 ghost use Rattle.std.specs.Io.{ReadsAtMost, WritesAtMost};
 ghost use Rattle.std.specs.Io.KnownBytes.{ReadConsumes, WriteAppends};
-ghost use Rattle.dx_io.specs.Causes.{ReadCause, WriteCause};
+ghost use Rattle.dx_io.specs.Causes.{ReadCause, WriteCause, KeepsCount, WriteKeepsCount};
 ghost use Rattle.dx_io.specs.Streams.{TellsEnd};
 ghost use Rattle.dx_io.specs.Plans.{fresh_plan, is_next_listed, after_call};
 
@@ -53,6 +53,7 @@ impl Source for MemSource {
         ensures bytes { ReadConsumes (Some self.old.left) (Some self.new.left) result into.new }
         ensures end { IfOk result (λ n. 0 < length into.new → TellsEnd (Some self.old.left) n) }
         ensures cause { ReadCause self.old.plan.faults self.new.plan.faults result }
+        ensures good { KeepsCount self.old.plan.faults self.new.plan.faults result }
 
         // It fails exactly at the listed calls, and else fills the buffer as far as there are bytes.
         ensures fails { IsErr result ↔ IsTrue (is_next_listed self.old.plan) }
@@ -113,6 +114,7 @@ impl Sink for MemSink {
         ensures bound { WritesAtMost result piece.now }
         ensures bytes { WriteAppends (Some self.old.written) (Some self.new.written) result piece.now }
         ensures cause { WriteCause self.old.plan.faults self.new.plan.faults piece.now result }
+        ensures good { WriteKeepsCount self.old.plan.faults self.new.plan.faults piece.now result }
 
         // It fails exactly at the listed calls, and else takes the whole piece, unless memory is
         // wanting.

@@ -2,7 +2,7 @@ ghost use Rattle.std.specs.Prelude.{ℕ, List};
 ghost use Rattle.std.specs.declared.option.Option.{Option};
 ghost use Rattle.std.specs.Io.{WritesAtMost};
 ghost use Rattle.std.specs.Io.KnownBytes.{WriteAppends};
-ghost use Rattle.dx_io.specs.Causes.{WriteCause};
+ghost use Rattle.dx_io.specs.Causes.{WriteCause, WriteKeepsCount};
 
 use thiserror::Error;
 
@@ -22,7 +22,8 @@ pub trait Sink {
     /// The bytes that have been written, where the sink tells them.
     ghost written: { Self → Option (List ℕ) };
 
-    /// The count of faults, below 2^64. It never falls, and a write answers `Failed` only where it rose.
+    /// The count of faults, below 2^64. It never falls, a write answers `Failed` only where it rose, and a
+    /// good answer leaves it, but for 0 to a piece that is not empty.
     ghost faults: { Self → ℕ };
 
     /// Appends bytes from the front of `piece`, and answers how many. The answer 0 for a piece
@@ -35,5 +36,6 @@ pub trait Sink {
     fn write(&mut self, piece: &[u8]) -> Result<usize, SinkError>
         ensures bound { WritesAtMost result piece.now }
         ensures bytes { WriteAppends (written self.old) (written self.new) result piece.now }
-        ensures cause { WriteCause (faults self.old) (faults self.new) piece.now result };
+        ensures cause { WriteCause (faults self.old) (faults self.new) piece.now result }
+        ensures good { WriteKeepsCount (faults self.old) (faults self.new) piece.now result };
 }

@@ -2,7 +2,7 @@ ghost use Rattle.std.specs.Prelude.{◌≡◌, ◌==◌, Ok, Some, IfOk, IfErr, 
 ghost use Rattle.std.specs.FinMap as map;
 ghost use Rattle.std.specs.BTreeMap.{keys, IsOrdered};
 ghost use Rattle.dx_maps.specs.Tables.{map_of};
-ghost use Rattle.dx_io.specs.Causes.{KeepCause};
+ghost use Rattle.dx_io.specs.Causes.{KeepCause, KeepsCount};
 ghost use Rattle.dx_io.specs.RowKeys.{row_cmp};
 ghost use Rattle.dx_io.specs.Rows.{SameRows, SetsRow, FindsRow, CountsRows, row_count};
 
@@ -78,6 +78,7 @@ impl Keeper for SureKeeper {
             (record { node = node; height = height }) bytes.now) }
         ensures err { OnErr result (SameRows (Some self.old) (Some self.new)) }
         ensures cause { KeepCause 0 0 result }
+        ensures good { KeepsCount 0 0 result }
 
         // It never fails, and is refused only for memory.
         ensures sure { IfErr result (λ error. error ≡ KeepError.NoMemory) }
@@ -92,6 +93,7 @@ impl Keeper for SureKeeper {
             (record { node = node; height = height }) (option_map (λ bytes. bytes.items) row)) }
         ensures kept { SameRows (Some self.old) (Some self.new) }
         ensures cause { KeepCause 0 0 result }
+        ensures good { KeepsCount 0 0 result }
 
         // It never fails, and is refused only for memory.
         ensures sure { IfErr result (λ error. error ≡ KeepError.NoMemory) }
@@ -107,6 +109,7 @@ impl Keeper for SureKeeper {
         ensures count { IfOk result (λ n. CountsRows (Some self.old) node n) }
         ensures kept { SameRows (Some self.old) (Some self.new) }
         ensures cause { KeepCause 0 0 result }
+        ensures good { KeepsCount 0 0 result }
 
         // It is never refused.
         ensures sure { result ≡ Ok (row_count self.old node) }

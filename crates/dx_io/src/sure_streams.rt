@@ -1,7 +1,7 @@
 ghost use Rattle.std.specs.Prelude.{◌≡◌, ◌<◌, [], Some, Ok, min, length, IfOk, MatchResult};
 ghost use Rattle.std.specs.Io.{ReadsAtMost, WritesAtMost};
 ghost use Rattle.std.specs.Io.KnownBytes.{ReadConsumes, WriteAppends};
-ghost use Rattle.dx_io.specs.Causes.{ReadCause, WriteCause};
+ghost use Rattle.dx_io.specs.Causes.{ReadCause, WriteCause, KeepsCount, WriteKeepsCount};
 ghost use Rattle.dx_io.specs.Streams.{TellsEnd};
 
 use crate::sink::{Sink, SinkError};
@@ -47,6 +47,7 @@ impl Source for SureSource {
         ensures bytes { ReadConsumes (Some self.old) (Some self.new) result into.new }
         ensures end { IfOk result (λ n. 0 < length into.new → TellsEnd (Some self.old) n) }
         ensures cause { ReadCause 0 0 result }
+        ensures good { KeepsCount 0 0 result }
 
         // It never fails, and fills the buffer as far as there are bytes.
         ensures count { result ≡ Ok (min (length self.old) (length into.old)) }
@@ -103,6 +104,7 @@ impl Sink for SureSink {
         ensures bound { WritesAtMost result piece.now }
         ensures bytes { WriteAppends (Some self.old) (Some self.new) result piece.now }
         ensures cause { WriteCause 0 0 piece.now result }
+        ensures good { WriteKeepsCount 0 0 piece.now result }
 
         // It takes the whole piece, unless memory is wanting.
         ensures count { MatchResult result (λ n. n ≡ length piece.now) (λ error. error ≡ SinkError.NoMemory) }

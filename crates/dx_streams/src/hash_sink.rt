@@ -2,7 +2,7 @@ ghost use Rattle.std.specs.Prelude.{◌≡◌, ◌++◌, [], ◌∷◌, Some, Ok
 ghost use Rattle.std.specs.Io.{WritesAtMost};
 ghost use Rattle.std.specs.Io.KnownBytes.{WriteAppends};
 ghost use Rattle.sha2.specs.Sha256.{sha256};
-ghost use Rattle.dx_io.specs.Causes.{WriteCause};
+ghost use Rattle.dx_io.specs.Causes.{WriteCause, WriteKeepsCount};
 ghost use Rattle.dx_streams.specs.Written.{bytes_of};
 
 use crate::history::History;
@@ -76,6 +76,7 @@ impl Sink for HashSink {
         ensures bound { WritesAtMost result piece.now }
         ensures bytes { WriteAppends (Some self.old) (Some self.new) result piece.now }
         ensures cause { WriteCause 0 0 piece.now result }
+        ensures good { WriteKeepsCount 0 0 piece.now result }
 
         // It takes the whole piece, and is never refused.
         ensures count { result ≡ Ok (length piece.now) }

@@ -2,7 +2,7 @@ ghost use Rattle.std.specs.Prelude.{◌≡◌, ◌<◌, Some, length, IfOk};
 ghost use Rattle.std.specs.List.{concat};
 ghost use Rattle.std.specs.Io.{ReadsAtMost};
 ghost use Rattle.std.specs.Io.KnownBytes.{ReadConsumes};
-ghost use Rattle.dx_io.specs.Causes.{ReadCause, one_more};
+ghost use Rattle.dx_io.specs.Causes.{ReadCause, one_more, KeepsCount};
 ghost use Rattle.dx_io.specs.Streams.{TellsEnd};
 
 use dx_gen::Gen;
@@ -66,6 +66,7 @@ impl Source for LineSource {
         ensures bytes { ReadConsumes (Some self.old.left) (Some self.new.left) result into.new }
         ensures end { IfOk result (λ n. 0 < length into.new → TellsEnd (Some self.old.left) n) }
         ensures cause { ReadCause self.old.faults self.new.faults result }
+        ensures good { KeepsCount self.old.faults self.new.faults result }
     {
         let faults = self.faults;
         let count = self.line.read(into)?;
