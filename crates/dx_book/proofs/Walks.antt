@@ -1,7 +1,7 @@
 -- From one order of a side to the next: what the walks of other crates over a book need.
 use Prim.Native.Nat.{zero}
 use Rattle.std.proofs.Common.{◌≡◌, ℕ, suc, ◌+◌, ◌≤◌, Bool, true, false, ◌==◌, cond, Option, None, Some, List, [], ◌∷◌, filter, drop, length, refl, sym, ap, ◌∙◌, subst, arith}
-use Rattle.std.specs.Prelude.{find, slice_get, IfSome}
+use Rattle.std.specs.Prelude.{find, slice_get, option_map, IfSome}
 use Rattle.std.specs.List.{AllByRecursion}
 use Rattle.std.proofs.lemmas.Bool.{and_parts, eqb-true}
 use Rattle.std.proofs.lemmas.List.{drop_all}
@@ -10,10 +10,11 @@ use Rattle.dx_spec.specs.Lists.{put_by, sorted_by}
 use Rattle.dx_spec.specs.Orders.{is_same_id, is_same_side}
 use Rattle.dx_node_spec.specs.Book.{is_better, is_on_side, side_of, best, HasOnePerId}
 use Rattle.dx_book.specs.Ways.{behind, has_id, next_of}
-use Rattle.dx_book.specs.Held.{Held, named, order_at}
+use Rattle.dx_book.specs.Held.{Held, Item, item_at, joined, named, order_at}
 use Rattle.dx_book.specs.declared.key.OrderKey.{OrderKey}
 use Rattle.dx_spec.proofs.Each.{all_pass, all_sorted, all_fail}
-use Rattle.dx_node_spec.proofs.Ids.{own_id, one_per_id-filter, one_per_id-sorted, swapped_ids}
+use Rattle.dx_spec.proofs.Same.{own_id, swapped_ids}
+use Rattle.dx_node_spec.proofs.Ids.{one_per_id-filter, one_per_id-sorted}
 use Rattle.dx_book.proofs.Sides.{same_side}
 
 -- what holds of each holds of the one at a place
@@ -123,3 +124,18 @@ next_at b market buy m k key r h e n f =
     let here : IfSome (Some m) (λ p. order_at b r ≡ next_of b.orders p) = subst (λ x. IfSome x (λ p. order_at b r ≡ next_of b.orders p)) n f in
     let one_on : suc k ≡ k + 1 = omega arith in
     here ∙ next_place b.orders market buy m k h e ∙ ap (slice_get (side_of b.orders market buy)) one_on
+
+-- what holds of each order holds of the one that a key names
+pub each_named : (P : Order → Type 0) (b : Held) (key : OrderKey) (o : Order) → ((n : ℕ) (y : Order) → slice_get b.orders n ≡ Some y → P y) → named b key ≡ Some o → P o
+unfolding named
+each_named P b key o h e = go b.keys b.orders h e
+  where
+    go : (ks : List ℕ) (os : List Order) → ((n : ℕ) (y : Order) → slice_get os n ≡ Some y → P y) → option_map (λ (x : Item). x.order) (item_at key.node (joined ks os)) ≡ Some o → P o
+    go [] os h e = absurd (cc)
+    go (k ∷ ks) [] h e = absurd (cc)
+    go (k ∷ ks) (y ∷ ys) h e = one (k == key.node) e (λ f. go ks ys (λ n z i. h (suc n) z i) f)
+      where
+        one : (b : Bool) → option_map (λ (x : Item). x.order) (cond b (Some (record { key = k; order = y })) (item_at key.node (joined ks ys))) ≡ Some o
+            → (option_map (λ (x : Item). x.order) (item_at key.node (joined ks ys)) ≡ Some o → P o) → P o
+        one true e more = let same : y ≡ o = cc in subst P same (h zero y refl)
+        one false e more = more e

@@ -1,3 +1,13 @@
+pub mod Chains
+pub mod Names
+pub mod Orders
+pub mod Tables
+pub mod Linking
+pub mod Levels
+pub mod Expiries
+pub mod Arrivals
+pub mod Held
+pub mod Standing
+pub mod Walking
 pub mod Ways
 pub mod Picks
-pub mod Held

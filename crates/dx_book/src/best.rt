@@ -1,59 +1,102 @@
-//! The best order of a side, and the one behind another, found without sorting.
+//! The best level of a side, and the one behind a price.
 
-ghost use Rattle.std.specs.Prelude.{◌≡◌, ◌<◌, length, slice_get, IfSome};
-ghost use Rattle.dx_node_spec.specs.Book.{best as best_of_side, HasOnePerId};
-ghost use Rattle.dx_book.specs.Picks.{before, front as front_of, pick as pick_of};
-ghost use Rattle.dx_book.specs.Ways.{next_of};
+ghost use Rattle.std.specs.Prelude.{◌≡◌, None, Some, T as Holds};
+ghost use Rattle.std.specs.FinMap.Entries.{is_sorted};
+ghost use Rattle.dx_book.specs.Names.{level_cmp};
+ghost use Rattle.dx_spec.specs.Orders.{is_same_side as is_one_side};
+ghost use Rattle.dx_book.specs.Levels.{is_better_price, is_behind, is_past, first_level, start_of};
 
-use crate::filters::{BehindEarlier, BehindLater, OnSide, OrderTest, comes_before};
-use dx_types::Order;
+use crate::ends::Ends;
+use crate::names::Level;
+use crate::table::place_of;
 
-/// Which of two orders of a side comes first: the second, where it has the better price.
-fn front(buy: bool, order: &Order, second: Option<Order>) -> Order
-    ensures { result ≡ front_of (before buy) order.now second }
+/// Whether two sides are one.
+fn is_same_side(a: bool, b: bool) -> bool
+    ensures { result ≡ is_one_side a b }
 {
-    match second {
-        Some(other) => {
-            if comes_before(buy, &other, order) {
-                other
-            } else {
-                *order
-            }
-        }
-        None => *order,
+    if a { b } else { !b }
+}
+
+/// Whether the first price is the better one on a side.
+fn is_better(buy: bool, subticks: u64, other: u64) -> bool
+    ensures { result ≡ is_better_price buy subticks other }
+{
+    if buy {
+        other < subticks
+    } else {
+        subticks < other
     }
 }
 
-/// The best of the orders that pass, of equals the earliest. `last` stands behind them all.
-fn pick<T: OrderTest>(orders: &[Order], buy: bool, test: &T, last: Option<Order>) -> Option<Order>
-    ensures { result ≡ pick_of (before buy) (T.passes test.now) orders.now last }
+/// Whether a level is of a side, and behind a price, if there is one.
+fn stands_behind(level: Level, market: u32, buy: bool, price: Option<u64>) -> bool
+    ensures { result ≡ is_behind market buy price level }
 {
-    let mut best = last;
-    for place in (0..orders.len()).rev() {
-        let order = &orders[place];
-        if test.passes(order) {
-            best = Some(front(buy, order, best));
+    match price {
+        Some(subticks) => {
+            level.market == market
+                && is_same_side(buy, level.buy)
+                && is_better(buy, subticks, level.subticks)
+        }
+        None => level.market == market && is_same_side(buy, level.buy),
+    }
+}
+
+/// Whether no level of a side stands behind a level: that is of a later market, or a bid where asks are meant.
+fn stands_past(level: Level, market: u32, buy: bool) -> bool
+    ensures { result ≡ is_past market buy level }
+{
+    market < level.market || (level.market == market && level.buy && !buy)
+}
+
+/// The key of the first order of the first level that is of a side, and behind a price, if there is one. It
+/// goes no further than the side.
+fn first_behind(
+    levels: &[(Level, Ends)],
+    market: u32,
+    buy: bool,
+    price: Option<u64>,
+) -> Option<usize>
+    requires { Holds (is_sorted level_cmp levels.now) }
+    ensures { result ≡ first_level (is_behind market buy price) levels.now }
+{
+    for number in 0..levels.len() {
+        let row = levels[number];
+        if stands_behind(row.0, market, buy, price) {
+            return Some(row.1.first);
+        }
+        if stands_past(row.0, market, buy) {
+            return None;
         }
     }
-    best
+    None
 }
 
-/// The best order of a side of a market, of equals the earliest.
-pub(crate) fn best_on(orders: &[Order], market: u32, buy: bool) -> Option<Order>
-    ensures { result ≡ best_of_side orders.now market buy }
+/// A level that no level of a side stands before.
+fn start_of_side(market: u32, buy: bool) -> Level
+    ensures { result ≡ start_of market buy }
 {
-    pick(orders, buy, &OnSide { market, buy }, None)
+    Level {
+        market,
+        buy: false,
+        subticks: if buy { u64::MAX } else { 0 },
+    }
 }
 
-/// The order behind the one at a place, by price and then by arrival, on the side of that one.
-pub(crate) fn best_behind(orders: &[Order], place: usize) -> Option<Order>
-    requires within { place < length orders.now }
-    requires one_per_id { HasOnePerId orders.now }
-    ensures { IfSome (slice_get orders.now place) (λ o. result ≡ next_of orders.now o) }
+/// The key of the first order of the best level of a side.
+pub(crate) fn best_of_side(levels: &[(Level, Ends)], market: u32, buy: bool) -> Option<usize>
+    requires { Holds (is_sorted level_cmp levels.now) }
+    ensures { result ≡ first_level (is_behind market buy None) levels.now }
 {
-    let order = orders[place];
-    let (earlier, _) = orders.split_at(place);
-    let (_, later) = orders.split_at(place + 1);
-    let best_later = pick(later, order.buy, &BehindLater { order }, None);
-    pick(earlier, order.buy, &BehindEarlier { order }, best_later)
+    let (_, rest) = levels.split_at(place_of(levels, start_of_side(market, buy)));
+    first_behind(rest, market, buy, None)
+}
+
+/// The key of the first order of the level behind another, on its side.
+pub(crate) fn best_behind(levels: &[(Level, Ends)], level: Level) -> Option<usize>
+    requires { Holds (is_sorted level_cmp levels.now) }
+    ensures { result ≡ first_level (is_behind level.market level.buy (Some level.subticks)) levels.now }
+{
+    let (_, rest) = levels.split_at(place_of(levels, level));
+    first_behind(rest, level.market, level.buy, Some(level.subticks))
 }

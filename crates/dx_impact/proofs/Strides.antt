@@ -13,12 +13,11 @@ use Rattle.dx_node_spec.specs.Votes.{size_or_none, impact_walk}
 use Rattle.dx_book.specs.Held.{Held, named}
 use Rattle.dx_book.specs.declared.key.OrderKey.{OrderKey}
 use Rattle.dx_impact.specs.Ranges.{IsPriced, HasPrices}
-use Rattle.dx_book.proofs.Walks.{each_found, from_place}
+use Rattle.dx_book.proofs.Walks.{each_named, from_place}
 
 -- the order of a held key is one of the book
 pub priced_at : (b : Held) (key : OrderKey) (o : Order) → HasPrices b.orders → named b key ≡ Some o → IsPriced o
-unfolding named
-priced_at b key o h e = each_found IsPriced _ b.orders o (at_all IsPriced b.orders h) e
+priced_at b key o h e = each_named IsPriced b key o (at_all IsPriced b.orders h) e
 
 passed : (cost rest : ℕ) → cost < rest → int_lt (pos cost) (pos rest) ≡ true
 passed cost rest h = grind (arith, ints)

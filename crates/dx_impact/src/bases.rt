@@ -8,7 +8,7 @@ ghost use Rattle.dx_book.specs.Held.{named};
 ghost use Rattle.dx_impact.specs.Ranges.{HasMarket, HasPrices, IsPriced};
 
 use crate::costs::{bounded, cost, left, size_for};
-use dx_book::{Book, OrderKey};
+use dx_book::{Book, OrderKey, uncounted};
 use dx_ledger::Ledger;
 use dx_types::{MarketInfo, Order};
 
@@ -28,7 +28,7 @@ fn priced_order(b: &Book, key: OrderKey) -> Order
     ensures order { named b.now key ≡ Some result }
     ensures priced { IsPriced result }
 {
-    b.order(key)
+    uncounted::order(b, key)
 }
 
 /// Walks over a side of a market until its orders give the market's impact.
@@ -41,7 +41,7 @@ fn walk<L: Ledger>(b: &Book, l: &L, m: &MarketInfo, market: u32, buy: bool) -> O
 {
     let mut base = 0;
     let mut rest = m.params.impact;
-    let mut next = b.first(market, buy);
+    let mut next = uncounted::first(b, market, buy);
     for _number in 0..b.len() {
         let Some(key) = next else {
             return None;
@@ -54,7 +54,7 @@ fn walk<L: Ledger>(b: &Book, l: &L, m: &MarketInfo, market: u32, buy: bool) -> O
         }
         base += u128::from(left);
         rest -= cost as u64;
-        next = b.next(key);
+        next = uncounted::next(b, key);
     }
     None
 }

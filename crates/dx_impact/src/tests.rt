@@ -4,7 +4,7 @@ ghost use Rattle.std.specs.Prelude.{◌<◌, ◌≤◌, ◌^◌, IsTrue, IfOk};
 ghost use Rattle.dx_impact.specs.Ranges.{HasMarket, HasPrices, IsPriced};
 
 use crate::{impact_base, vote};
-use dx_book::Book;
+use dx_book::{Book, uncounted};
 use dx_sample::genesis;
 use dx_state::PlainState;
 use dx_types::{Kind, NoMemory, Order, OrderId, SubaccountId};
@@ -53,7 +53,7 @@ fn rest(rt: &impl Abort, b: &mut Book, o: &Order) -> Result<(), Fail>
     b.reserve()?;
     assert!(rt; is_priced(o));
     assert!(rt; b.find(&o.id).is_none());
-    b.add(o);
+    uncounted::add(b, o);
     Ok(())
 }
 

@@ -1,5 +1,5 @@
 -- What a fill adds to the filled amounts.
-use Rattle.std.proofs.Common.{◌≡◌, ℕ, suc, ◌+◌, ◌^◌, ◌<◌, ◌≤◌, min, Bool, true, false, cond, not, ◌==◌, ℤ, Some, List, [], ◌∷◌, length, Ok, IsTrue, refl, sym, ap, subst, ◌∙◌, arith, lit<}
+use Rattle.std.proofs.Common.{◌≡◌, ℕ, suc, ◌+◌, ◌^◌, ◌<◌, ◌≤◌, Bool, true, false, cond, not, ◌==◌, ℤ, Some, List, [], ◌∷◌, length, Ok, IsTrue, refl, sym, ap, subst, ◌∙◌, arith, lit<}
 use Prim.Native.Nat.{zero}
 use Rattle.std.specs.Prelude.{slice_get, IfSome}
 use Rattle.std.proofs.lemmas.Bool.{ltb-true}
@@ -84,9 +84,9 @@ record_small s id r h =
 filled_small : (s : State) (id : OrderId) → IsSteady s → filled_of s id < 2 ^ 48
 filled_small s id h = option_cases (λ n. n < 2 ^ 48) (λ (r : FillRecord). r.amount) (get s.filled id) 0 (λ _. lit< tt) (λ r e. record_small s id r (h.within.filled id r e))
 
--- the lesser of what is left of two orders keeps the range of what is filled
-pub room_left : (s : State) (o : Order) (filled amount a b : ℕ) → IsSteady s → IsTradable s o → filled ≤ filled_of s o.id → amount ≡ min a b → a ≡ left s o → filled + amount < 2 ^ 64
-room_left s o filled amount a b h w i e f =
+-- no more than what is left of an order keeps the range of what is filled
+pub room_left : (s : State) (o : Order) (filled amount : ℕ) → IsSteady s → IsTradable s o → filled ≤ filled_of s o.id → amount ≤ left s o → filled + amount < 2 ^ 64
+room_left s o filled amount h w i e =
     let recorded = filled_small s o.id h in
     let size : o.size < 2 ^ 48 = ltb-true o.size (2 ^ 48) (tradable_fillable s o h w).size in
-    omega (arith, recorded, size, i, e, f)
+    omega (arith, recorded, size, i, e)

@@ -19,7 +19,7 @@ use Rattle.dx_spec.proofs.Each.{all_weaker, all_both, all_filter, all_pass, all_
 use Rattle.dx_node_spec.specs.Book.{left, is_better, is_on_side, side_of}
 use Rattle.dx_node_spec.specs.Taking.{Taken, leaves, with_fill, refused_maker}
 use Rattle.dx_node_spec.specs.Sweeping.{size_of, closed_liquidation, liquidate_one, liquidate_market}
-use Rattle.dx_node_spec.proofs.Ids.{one_id}
+use Rattle.dx_spec.proofs.Same.{one_id}
 use Rattle.dx_book.proofs.Walks.{from_place, each_at}
 use Rattle.dx_trade.specs.Conditions.{IsTradable}
 use Rattle.dx_match.specs.declared.taken.Taking.{Taking}

@@ -104,7 +104,7 @@ group_pushed queue ops placed both after k op group fills (Err x) e f i n j = tt
 
 -- a taking with other fills that stand in no operation
 abbrev with_fills : State → Taking → List Filled → Taken
-with_fills s p g = record { state = s; group = group_of g; ops = p.ops; gone = p.gone; filled = p.filled; fills = p.fills; offsets = p.offsets; stop = p.stop }
+with_fills s p g = record { state = s; group = group_of g; ops = p.ops; gone = p.gone; filled = p.filled; fills = p.fills; offsets = p.offsets; stop = p.stop; over = p.over }
 
 -- a group with no fill is closed
 pub closed_already : (queue : List Op) (k : Taker) (s : State) (p : Taking) → p.group ≡ [] → seen s p ≡ closed_for queue k (seen s p)
@@ -112,7 +112,7 @@ unfolding closed
 closed_already queue k s p e = ap (with_fills s p) e ∙ sym (ap (λ g. closed_for queue k (with_fills s p g)) e)
 
 with_operations : (queue : List Op) (k : Taker) (s : State) (p : Taking) (g : List Filled) → 0 < length g
-    → record { state = s; group = []; ops = with_group queue k p.ops (group_of g); gone = p.gone; filled = p.filled; fills = p.fills; offsets = p.offsets; stop = p.stop }
+    → record { state = s; group = []; ops = with_group queue k p.ops (group_of g); gone = p.gone; filled = p.filled; fills = p.fills; offsets = p.offsets; stop = p.stop; over = p.over }
     ≡ closed_for queue k (with_fills s p g)
 unfolding closed with_group
 with_operations queue k s p [] h = absurd (omega arith)
@@ -121,10 +121,10 @@ with_operations queue k s p (x ∷ xs) h = refl
 -- and one with fills becomes operations
 pub closes : (queue ops : List Op) (k : Taker) (s : State) (p : Taking) (group same rest : List Filled) → 0 < length p.group → group ≡ p.group → same ≡ group → rest ≡ []
     → ops ≡ with_group queue k p.ops (group_of same)
-    → record { state = s; group = group_of rest; ops = ops; gone = p.gone; filled = p.filled; fills = p.fills; offsets = p.offsets; stop = p.stop } ≡ closed_for queue k (seen s p)
+    → record { state = s; group = group_of rest; ops = ops; gone = p.gone; filled = p.filled; fills = p.fills; offsets = p.offsets; stop = p.stop; over = p.over } ≡ closed_for queue k (seen s p)
 closes queue ops k s p group same rest h i l n e =
-    ap (λ g. record { state = s; group = group_of g; ops = ops; gone = p.gone; filled = p.filled; fills = p.fills; offsets = p.offsets; stop = p.stop }) n
-    ∙ ap (λ x. record { state = s; group = []; ops = x; gone = p.gone; filled = p.filled; fills = p.fills; offsets = p.offsets; stop = p.stop }) (e ∙ ap (λ g. with_group queue k p.ops (group_of g)) (l ∙ i))
+    ap (λ g. record { state = s; group = group_of g; ops = ops; gone = p.gone; filled = p.filled; fills = p.fills; offsets = p.offsets; stop = p.stop; over = p.over }) n
+    ∙ ap (λ x. record { state = s; group = []; ops = x; gone = p.gone; filled = p.filled; fills = p.fills; offsets = p.offsets; stop = p.stop; over = p.over }) (e ∙ ap (λ g. with_group queue k p.ops (group_of g)) (l ∙ i))
     ∙ with_operations queue k s p p.group h
 
 limits_kept : (queue : List Op) (t : Taken) → has_too_many_ops (queue ++ t.ops) ≡ false → within_limits queue t ≡ Some t
@@ -154,9 +154,9 @@ ends_beyond queue same more s q many f g h i = limits_passed queue (seen s q) (t
 -- the removal of an order behind the group that it closes
 pub removal_pushed : {E : Type 0} (queue : List Op) (k : Taker) (id : OrderId) (s t : State) (p q : Taking) (ops : List Op) (r : Result (Unit {0}) E)
     → seen s q ≡ closed_for queue k (seen s p) → ops ≡ cond (is_ok r) (q.ops ++ Remove id ∷ []) q.ops
-    → OnOk r (record { state = t; group = group_of q.group; ops = ops; gone = q.gone; filled = q.filled; fills = q.fills; offsets = q.offsets; stop = q.stop }
+    → OnOk r (record { state = t; group = group_of q.group; ops = ops; gone = q.gone; filled = q.filled; fills = q.fills; offsets = q.offsets; stop = q.stop; over = q.over }
     ≡ record (closed_for queue k (seen s p)) { state = t; ops = (closed_for queue k (seen s p)).ops ++ Remove id ∷ [] })
 removal_pushed queue k id s t p q ops (Ok u) e f =
-    ap (λ l. record { state = t; group = group_of q.group; ops = l; gone = q.gone; filled = q.filled; fills = q.fills; offsets = q.offsets; stop = q.stop }) f
+    ap (λ l. record { state = t; group = group_of q.group; ops = l; gone = q.gone; filled = q.filled; fills = q.fills; offsets = q.offsets; stop = q.stop; over = q.over }) f
     ∙ ap (λ (x : Taken). record x { state = t; ops = x.ops ++ Remove id ∷ [] }) e
 removal_pushed queue k id s t p q ops (Err x) e f = tt

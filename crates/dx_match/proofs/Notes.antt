@@ -1,5 +1,5 @@
 -- What is noted of a fill that was tried.
-use Rattle.std.proofs.Common.{◌≡◌, ◌≢◌, ℕ, ◌+◌, ◌≤◌, true, false, cond, min, List, [], ◌∷◌, ◌++◌, Result, Ok, Err, refl, sym, ap, subst, ◌∙◌, is_ok, arith}
+use Rattle.std.proofs.Common.{◌≡◌, ◌≢◌, ℕ, ◌+◌, ◌≤◌, true, false, cond, List, [], ◌∷◌, ◌++◌, Result, Ok, Err, refl, sym, ap, subst, ◌∙◌, is_ok, arith}
 use Rattle.std.proofs.lemmas.Bool.{ne_eqb}
 use Rattle.std.proofs.lemmas.List.{map-append}
 use Rattle.dx_types.specs.declared.Order.{Order}
@@ -9,7 +9,7 @@ use Rattle.dx_types.specs.declared.OrderId.{OrderId}
 use Rattle.dx_spec.specs.State.{State, is_same_account, filled_of}
 use Rattle.dx_spec.specs.Fills.{fill_step}
 use Rattle.dx_node_spec.specs.Book.{left}
-use Rattle.dx_node_spec.specs.Taking.{Taken, Filled as FilledMaker, leaves, with_fill, closed_match, refused_maker}
+use Rattle.dx_node_spec.specs.Taking.{Taken, Filled as FilledMaker, leaves, with_fill, closed_match, refused_maker, amount_to_try, closes_nothing, ended, looked_again, try_maker}
 use Rattle.dx_ledger.specs.declared.faults.OpFault.{OpFault}
 use Rattle.dx_ledger.specs.declared.faults.OpFault.TheVariants.{Code}
 use Rattle.dx_accounts.specs.Faults.{IsFaultOf}
@@ -29,7 +29,7 @@ pub noted_gone : (maker : Order) (amount : ℕ) (s t : State) (before : Taking) 
     → last ≡ with_fill maker amount s (seen t before)
 unfolding with_fill
 noted_gone maker amount s t before group last h z e =
-    let noted : List FilledMaker → Taken = λ g. record { state = s; group = g; ops = before.ops; gone = before.gone; filled = before.filled + amount; fills = before.fills + 1; offsets = before.offsets; stop = before.stop } in
+    let noted : List FilledMaker → Taken = λ g. record { state = s; group = g; ops = before.ops; gone = before.gone; filled = before.filled + amount; fills = before.fills + 1; offsets = before.offsets; stop = before.stop; over = before.over } in
     let more : group_of group ≡ group_of before.group ++ record { maker = maker; amount = amount } ∷ [] = ap group_of h ∙ map-append _ before.group _ in
     e ∙ ap (λ g. leaves maker.id (noted g)) more ∙ rw z refl
 
@@ -65,14 +65,27 @@ pub takes_own : (queue : List Op) (o maker : Order) (t last : Taken) → is_same
 unfolding take_maker
 takes_own queue o maker t last e h = h ∙ rw e refl
 
--- any other
-pub takes_filled : (queue : List Op) (o maker : Order) (amount a b : ℕ) (t last : Taken) → is_same_account maker.id.who o.id.who ≡ false
-    → amount ≡ min a b → a ≡ left t.state o → b ≡ left t.state maker
-    → last ≡ tried queue o maker amount t (fill_step t.state o maker amount) → last ≡ take_maker queue o t maker
+-- a reduce-only order with nothing to close
+pub takes_no_more : (queue : List Op) (o maker : Order) (t : Taken) → is_same_account maker.id.who o.id.who ≡ false → closes_nothing t.state o ≡ true → ended t ≡ take_maker queue o t maker
 unfolding take_maker
-takes_filled queue o maker amount a b t last e f i j h =
-    let same : amount ≡ min (left t.state o) (left t.state maker) = f ∙ ap (λ n. min n b) i ∙ ap (min (left t.state o)) j in
-    h ∙ ap (λ n. tried queue o maker n t (fill_step t.state o maker n)) same ∙ rw e refl
+takes_no_more queue o maker t e f = rw (e, f) refl
+
+-- any other
+pub takes_tried : (queue : List Op) (o maker : Order) (t last : Taken) → is_same_account maker.id.who o.id.who ≡ false → closes_nothing t.state o ≡ false
+    → last ≡ looked_again o maker (try_maker queue o t maker) → last ≡ take_maker queue o t maker
+unfolding take_maker
+takes_tried queue o maker t last e f h = h ∙ rw (e, f) refl
+
+tried_as : (queue : List Op) (o maker : Order) (t : Taken)
+    → tried queue o maker (amount_to_try t.state o maker) t (fill_step t.state o maker (amount_to_try t.state o maker)) ≡ try_maker queue o t maker
+unfolding try_maker tried
+tried_as queue o maker t = refl
+
+-- the amount that an order tries, and the maker looked at again
+pub tried_amount : (queue : List Op) (o maker : Order) (amount : ℕ) (t noted last : Taken) → amount ≡ amount_to_try t.state o maker
+    → noted ≡ tried queue o maker amount t (fill_step t.state o maker amount) → last ≡ looked_again o maker noted → last ≡ looked_again o maker (try_maker queue o t maker)
+tried_amount queue o maker amount t noted last e f h =
+    h ∙ ap (looked_again o maker) (f ∙ ap (λ n. tried queue o maker n t (fill_step t.state o maker n)) e ∙ tried_as queue o maker t)
 
 -- a refused fill leaves the state as it was
 pub tried_from : (queue : List Op) (o maker : Order) (amount : ℕ) (s t : State) (p : Taking) (last : Taken) (step : Result State ℕ) → t ≡ s

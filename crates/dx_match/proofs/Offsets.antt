@@ -91,7 +91,7 @@ module _ (who : SubaccountId) (market : ℕ) where
 
 -- a taking with no offset, and with some
 abbrev with_done : State → Taking → List Op → ℕ → Taken
-with_done t p ops offsets = record { state = t; group = group_of p.group; ops = ops; gone = p.gone; filled = p.filled; fills = p.fills; offsets = offsets; stop = p.stop }
+with_done t p ops offsets = record { state = t; group = group_of p.group; ops = ops; gone = p.gone; filled = p.filled; fills = p.fills; offsets = offsets; stop = p.stop; over = p.over }
 
 pub no_offsets : (who : SubaccountId) (market : ℕ) (s t : State) (p : Taking) (x : Offsetting) → x.done ≡ [] → seen t p ≡ with_offsets who market (seen s p) (offsets_seen t x)
 unfolding with_offsets

@@ -3,7 +3,7 @@ use Rattle.std.proofs.Common.{◌≡◌, Bool, true, false, cond, Some, None, sy
 use Rattle.std.proofs.lemmas.List.Elements.{All-map}
 use Rattle.dx_types.specs.declared.SubaccountId.{SubaccountId}
 use Rattle.dx_types.specs.declared.Account.{Account}
-use Rattle.dx_spec.specs.State.{State, account_of}
+use Rattle.dx_spec.specs.State.{State, account_of, is_scaled}
 use Rattle.dx_spec.specs.Bounds.{is_balance}
 use Rattle.dx_spec.specs.Margin.{at_index, settled_account, risk}
 use Rattle.dx_types.specs.declared.Risk.{Risk}
@@ -30,9 +30,9 @@ module _ (s : State) (who : SubaccountId) (a : Account) (same : a ≡ account_of
       subst (IsCovered s.markets) (sym (settled_is x e))
       (All-map (λ p. IfSome (slice_get s.markets p.market) (λ m. Covers m p.size)) (at_index s.markets) (account_of s who).positions.items (covered_account s who h))
 
-  pub risk_is : (x : Settled) (r : Risk) → settlement s.markets a ≡ Some x → r ≡ risk s.markets x.account → r ≡ settled_risk s who
+  pub risk_is : (x : Settled) (r : Risk) → settlement s.markets a ≡ Some x → r ≡ risk (is_scaled s) s.markets x.account → r ≡ settled_risk s who
   unfolding settled_risk
-  risk_is x r e h = h ∙ ap (risk s.markets) (settled_is x e)
+  risk_is x r e h = h ∙ ap (risk (is_scaled s) s.markets) (settled_is x e)
 
   -- an account that can be settled is
   pub settles_surely : is_balance (settled_account s.markets (account_of s who)).quote ≡ true → settlement s.markets a ≡ None → ⊥

@@ -7,29 +7,29 @@ use Rattle.dx_spec.specs.Orders.{is_same_id, crosses}
 use Rattle.dx_spec.specs.State.{State}
 use Rattle.dx_node_spec.specs.Book.{without, makers_of}
 use Rattle.dx_node_spec.specs.Taking.{Taken, nothing_taken, take_one, closed_match, within_limits, take_order}
-use Rattle.dx_match.specs.Stages.{is_over, tried, take_maker, opposite, takable}
+use Rattle.dx_match.specs.Stages.{is_over, take_maker, opposite, takable}
 use Rattle.dx_book.proofs.Walks.{from_place}
 use Rattle.dx_match.proofs.Sides.{makers_are}
 
-one_stays : (queue : List Op) (o : Order) (t : Taken) (m : Order) → is_over t.state o t.stop ≡ true → take_one queue o t m ≡ t
+one_stays : (queue : List Op) (o : Order) (t : Taken) (m : Order) → is_over o t ≡ true → take_one queue o t m ≡ t
 unfolding take_one
 one_stays queue o t m e = rw e refl
 
 -- an order that takes no more takes none of the makers
-over_stays : (queue : List Op) (o : Order) (t : Taken) (makers : List Order) → is_over t.state o t.stop ≡ true → fold (take_one queue o) t makers ≡ t
+over_stays : (queue : List Op) (o : Order) (t : Taken) (makers : List Order) → is_over o t ≡ true → fold (take_one queue o) t makers ≡ t
 over_stays queue o t [] e = refl
 over_stays queue o t (m ∷ ms) e = ap (λ u. fold (take_one queue o) u ms) (one_stays queue o t m e) ∙ over_stays queue o t ms e
 
-pub over_done : (queue : List Op) (o : Order) (t whole : Taken) (makers : List Order) → is_over t.state o t.stop ≡ true → fold (take_one queue o) t makers ≡ whole → t ≡ whole
+pub over_done : (queue : List Op) (o : Order) (t whole : Taken) (makers : List Order) → is_over o t ≡ true → fold (take_one queue o) t makers ≡ whole → t ≡ whole
 over_done queue o t whole makers e made = sym (over_stays queue o t makers e) ∙ made
 
 -- an order that takes on takes the maker
-pub takes_one : (queue : List Op) (o : Order) (t : Taken) (maker : Order) → is_over t.state o t.stop ≡ false → take_one queue o t maker ≡ take_maker queue o t maker
-unfolding take_one take_maker tried
+pub takes_one : (queue : List Op) (o : Order) (t : Taken) (maker : Order) → is_over o t ≡ false → take_one queue o t maker ≡ take_maker queue o t maker
+unfolding take_one take_maker
 takes_one queue o t maker e = rw e refl
 
 -- a maker by itself, where it has another id
-pub takes_other : (queue : List Op) (o : Order) (t u : Taken) (maker : Order) → is_over t.state o t.stop ≡ false → is_same_id maker.id o.id ≡ false
+pub takes_other : (queue : List Op) (o : Order) (t u : Taken) (maker : Order) → is_over o t ≡ false → is_same_id maker.id o.id ≡ false
     → u ≡ take_maker queue o t maker → u ≡ fold (take_one queue o) t (without (maker ∷ []) o.id)
 takes_other queue o t u maker e n h = h ∙ sym (takes_one queue o t maker e) ∙ ap (λ b. fold (take_one queue o) t (cond (not b) (maker ∷ []) [])) (sym n)
 

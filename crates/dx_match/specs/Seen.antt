@@ -21,6 +21,7 @@ seen s p = record {
   fills = p.fills;
   offsets = p.offsets;
   stop = p.stop;
+  over = p.over;
 }
 
 -- a taking that has come to its end, in a state
@@ -34,4 +35,5 @@ ended s r = record {
   fills = r.fills;
   offsets = r.offsets;
   stop = r.stop;
+  over = r.over;
 }

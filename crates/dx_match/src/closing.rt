@@ -172,6 +172,7 @@ pub(crate) fn end(queue: &Queue, taking: Taking) -> Result<Taken, TakeFault>
         fills: taking.fills,
         offsets: taking.offsets,
         stop: taking.stop,
+        over: taking.over,
     })
 }
 

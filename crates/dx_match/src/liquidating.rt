@@ -20,7 +20,7 @@ use crate::removing::{leave, refuse_maker};
 use crate::settling::settled_risk;
 use crate::stepping::{left, note_fill};
 use crate::taken::{Taker, Taking};
-use dx_book::Book;
+use dx_book::{Book, uncounted};
 use dx_ledger::{Branch, Ledger, OpFault};
 use dx_liquidation::liquidate;
 use dx_margin::liquidatable;
@@ -214,7 +214,7 @@ fn close_side<L: Branch>(
     ensures marks { KeepsMarks L.stands L.marked ledger.old ledger.new }
     ensures beside { L.beside ledger.new ≡ L.beside ledger.old }
 {
-    let mut next = book.first(market, buy);
+    let mut next = uncounted::first(book, market, buy);
     for _number in 0..book.len() {
         let Some(key) = next else {
             return Ok(());
@@ -222,9 +222,9 @@ fn close_side<L: Branch>(
         if is_closed(ledger, who, market, taking.stop) {
             return Ok(());
         }
-        let maker = book.order(key);
+        let maker = uncounted::order(book, key);
         close_maker(ledger, queue, who, market, &maker, taking)?;
-        next = book.next(key);
+        next = uncounted::next(book, key);
     }
     Ok(())
 }

@@ -17,7 +17,7 @@ use crate::closing::close;
 use crate::faults::TakeFault;
 use crate::stepping::{is_over, take};
 use crate::taken::{Taken, Taking, start};
-use dx_book::Book;
+use dx_book::{Book, uncounted};
 use dx_ledger::Branch;
 use dx_orders::crosses;
 use dx_queue::Queue;
@@ -44,20 +44,20 @@ fn take_all<L: Branch>(
     ensures beside { L.beside ledger.new ≡ L.beside ledger.old }
 {
     let mut taking = start(alloc);
-    let mut next = book.first(order.id.market, !order.buy);
+    let mut next = uncounted::first(book, order.id.market, !order.buy);
     for _number in 0..book.len() {
         let Some(key) = next else {
             return Ok(taking);
         };
-        let maker = book.order(key);
-        if is_over(ledger, order, taking.stop) {
+        let maker = uncounted::order(book, key);
+        if is_over(ledger, order, &taking) {
             return Ok(taking);
         }
         if !crosses(order, &maker) {
             return Ok(taking);
         }
         take(ledger, queue, order, &maker, &mut taking)?;
-        next = book.next(key);
+        next = uncounted::next(book, key);
     }
     Ok(taking)
 }
@@ -90,9 +90,10 @@ fn try_match<L: Branch>(
 /// The order takes the orders of the other side that it crosses, the best price first and then the earliest,
 /// each at its own price, by the lesser of what is left of both. A maker of the order's own account leaves the
 /// book, and so does one with nothing left and one whose account does not bear the fill: where a stateful one
-/// may be removed, its removal is an operation too. Any other refusal stops the order with its code. The order of
-/// the same id in the book stands aside. `order` need not be in
-/// the book, and the book and the queue stay as they are: the caller takes `gone` out and pushes `ops`.
+/// may be removed, its removal is an operation too. Any other refusal stops the order with its code. A reduce-only
+/// order takes no more than its account has to close, and ends at a maker of another account where that is
+/// nothing (`over`). The order of the same id in the book stands aside. `order` need not be in the book, and the
+/// book and the queue stay as they are: the caller takes `gone` out and pushes `ops`.
 ///
 /// `Full` where the queue would have more than 1,024 operations, or more than 4,096 fills and offsets
 /// together; `NoMemory` where there is none. The content is then as before.

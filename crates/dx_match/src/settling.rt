@@ -1,7 +1,7 @@
 //! The risk of an account once it is settled, and whether it can be.
 
 ghost use Rattle.std.specs.Prelude.{◌≡◌, ◌<◌, ◌^◌, All, unsigned_abs, not, is_none, IfOk};
-ghost use Rattle.dx_spec.specs.State.{account_of as account_in};
+ghost use Rattle.dx_spec.specs.State.{account_of as account_in, is_scaled};
 ghost use Rattle.dx_spec.specs.Margin.{risk as risk_in};
 ghost use Rattle.dx_spec.specs.Accounts.{settle_step};
 ghost use Rattle.dx_node_spec.specs.Sweeping.{settled_risk as risk_settled};
@@ -28,7 +28,7 @@ fn settled<L: Ledger>(ledger: &L, account: &Account) -> Option<Settled>
 fn risk_at<L: Ledger>(ledger: &L, account: &Account) -> Risk
     requires markets { All IsMarket (L.content ledger.now).markets }
     requires covered { IsCovered (L.content ledger.now).markets account.now }
-    ensures { result ≡ risk_in (L.content ledger.now).markets account.now }
+    ensures { result ≡ risk_in (is_scaled (L.content ledger.now)) (L.content ledger.now).markets account.now }
 {
     risk(ledger, account)
 }

@@ -5,7 +5,7 @@ ghost use Rattle.dx_spec.specs.State.{State as AnyState, filled_of as filled_in}
 ghost use Rattle.dx_spec.specs.Fills.{fill_step};
 ghost use Rattle.dx_spec.specs.Orders.{is_same_id as is_one_id};
 ghost use Rattle.dx_node_spec.specs.Book.{left as left_in, without};
-ghost use Rattle.dx_node_spec.specs.Taking.{with_fill, take_one};
+ghost use Rattle.dx_node_spec.specs.Taking.{with_fill, looked_again, try_maker as tried_with, take_one};
 ghost use Rattle.dx_ledger.specs.Marks.{KeepsMarks};
 ghost use Rattle.dx_accounts.specs.Faults.{IsFaultOf};
 ghost use Rattle.dx_accounts.specs.Steady.{IsSteady};
@@ -15,6 +15,7 @@ ghost use Rattle.dx_fill.specs.Conditions.{CanFillBoth};
 ghost use Rattle.dx_match.specs.Conditions.{KeepsOthers};
 ghost use Rattle.dx_match.specs.Stages.{is_over as over, tried, take_maker as taken_from};
 
+use crate::reducing::{amount_to_try, closes_nothing, look_again};
 use crate::removing::{leave, refuse_maker};
 use crate::taken::{Filled, Taker, Taking};
 use dx_fill::fill;
@@ -31,11 +32,11 @@ pub fn left<L: Ledger>(ledger: &L, order: &Order) -> u64
     order.size.saturating_sub(filled_of(ledger, &order.id))
 }
 
-/// Whether an order takes no more: it is stopped, or has nothing left.
-pub(crate) fn is_over<L: Ledger>(ledger: &L, order: &Order, stop: u32) -> bool
-    ensures { result ≡ over (L.content ledger.now) order.now stop }
+/// Whether an order takes no more: its taking is over, it is stopped, or it has nothing left.
+pub(crate) fn is_over<L: Ledger>(ledger: &L, order: &Order, taking: &Taking) -> bool
+    ensures { result ≡ over order.now (seen (L.content ledger.now) taking.now) }
 {
-    stop != 0 || left(ledger, order) == 0
+    taking.over || taking.stop != 0 || left(ledger, order) == 0
 }
 
 /// Notes a fill that was made.
@@ -122,7 +123,7 @@ fn note_refusal<L: Branch>(
 }
 
 /// Fills the order against a maker by an amount of base quantums, and notes what that leads to.
-fn try_maker<L: Branch>(
+fn try_fill<L: Branch>(
     ledger: &mut L,
     queue: &Queue,
     order: &Order,
@@ -150,8 +151,34 @@ fn try_maker<L: Branch>(
     }
 }
 
-/// Takes a maker: one of the order's own account leaves the book, and any other is filled by the lesser of
-/// what is left of both.
+/// Tries a fill of a maker by the amount that the order can take of it, and looks at the maker again.
+fn try_maker<L: Branch>(
+    ledger: &mut L,
+    queue: &Queue,
+    order: &Order,
+    maker: &Order,
+    taking: &mut Taking,
+) -> Result<(), NoMemory>
+    requires fillable { CanFillBoth (L.content ledger.old) order.now maker.now }
+    requires other { is_one_id maker.now.id order.now.id ≡ false }
+    requires within { taking.old.filled ≤ filled_in (L.content ledger.old) order.now.id }
+    requires fills { taking.old.fills + 1 < 2 ^ 32 }
+    ensures ok { OnOk result (seen (L.content ledger.new) taking.new ≡ looked_again order.now maker.now
+        (tried_with queue.now order.now (seen (L.content ledger.old) taking.old) maker.now)) }
+    ensures kept { OnOk result (KeepsOthers maker.now.id (L.content ledger.old) (L.content ledger.new)) }
+    ensures within { OnOk result (taking.new.filled ≤ filled_in (L.content ledger.new) order.now.id) }
+    ensures fills { OnOk result (taking.new.fills ≤ taking.old.fills + 1) }
+    ensures marks { KeepsMarks L.stands L.marked ledger.old ledger.new }
+    ensures beside { L.beside ledger.new ≡ L.beside ledger.old }
+{
+    let amount = amount_to_try(ledger, order, maker);
+    try_fill(ledger, queue, order, maker, amount, taking)?;
+    look_again(ledger, order, maker, taking);
+    Ok(())
+}
+
+/// Takes a maker: one of the order's own account leaves the book. A reduce-only order with nothing to close takes no
+/// more. Of any other a fill is tried.
 fn take_maker<L: Branch>(
     ledger: &mut L,
     queue: &Queue,
@@ -174,8 +201,11 @@ fn take_maker<L: Branch>(
     if is_same_account(maker.id.who, order.id.who) {
         return leave(taking, maker);
     }
-    let amount = left(ledger, order).min(left(ledger, maker));
-    try_maker(ledger, queue, order, maker, amount, taking)
+    if closes_nothing(ledger, order) {
+        taking.over = true;
+        return Ok(());
+    }
+    try_maker(ledger, queue, order, maker, taking)
 }
 
 /// Takes a maker that the order crosses, unless it has the order's own id.
@@ -187,7 +217,7 @@ pub(crate) fn take<L: Branch>(
     taking: &mut Taking,
 ) -> Result<(), NoMemory>
     requires fillable { CanFillBoth (L.content ledger.old) order.now maker.now }
-    requires goes_on { over (L.content ledger.old) order.now taking.old.stop ≡ false }
+    requires goes_on { over order.now (seen (L.content ledger.old) taking.old) ≡ false }
     requires within { taking.old.filled ≤ filled_in (L.content ledger.old) order.now.id }
     requires fills { taking.old.fills + 1 < 2 ^ 32 }
     ensures ok { OnOk result (seen (L.content ledger.new) taking.new

@@ -21,6 +21,9 @@ pub struct Taken {
     pub offsets: u32,
     /// The code that stopped the order ("Codes of a block" in docs/RULES.md), or 0; 0 for a sweep.
     pub stop: u32,
+    /// Whether a reduce-only order had nothing left to close at a maker that it crosses, so that its taking ended
+    /// there; `false` for any other order and for a sweep.
+    pub over: bool,
 }
 
 /// Whose fills a group has.
@@ -63,6 +66,8 @@ pub(crate) struct Taking {
     pub(crate) offsets: u32,
     /// The code that stopped it, or 0.
     pub(crate) stop: u32,
+    /// Whether a reduce-only order found nothing to close: it takes no more, as if it crossed no maker.
+    pub(crate) over: bool,
 }
 
 /// Before the first maker. It takes no memory.
@@ -78,5 +83,6 @@ pub(crate) fn start(alloc: Global) -> Taking
         fills: 0,
         offsets: 0,
         stop: 0,
+        over: false,
     }
 }

@@ -1,3 +1,5 @@
+ghost use Rattle.std.specs.Prelude.{◌≡◌, Some, None};
+
 use dx_types::NoMemory;
 use thiserror::Error;
 
@@ -11,6 +13,19 @@ pub enum QueueFault {
     /// There was no memory.
     #[error("out of memory")]
     NoMemory,
+}
+
+impl QueueFault {
+    /// The number of the refusal, if it has one: `Full` is 1, and want of memory has none.
+    pub fn number(&self) -> Option<u32>
+        ensures refused { self.now ≡ QueueFault.Full → result ≡ Some 1 }
+        ensures memory { self.now ≡ QueueFault.NoMemory → result ≡ None }
+    {
+        match self {
+            QueueFault::Full => Some(1),
+            QueueFault::NoMemory => None,
+        }
+    }
 }
 
 impl From<NoMemory> for QueueFault {

@@ -12,7 +12,7 @@ use Rattle.dx_spec.specs.State.{State}
 use Rattle.dx_spec.specs.Orders.{is_same_id}
 use Rattle.dx_node_spec.specs.Queue.{named_by}
 use Rattle.dx_node_spec.specs.Node.{Node}
-use Rattle.dx_node_spec.specs.Commits.{holds_as_is, placed_by_message, with_new, again_after}
+use Rattle.dx_node_spec.specs.Commits.{holds_as_is, placed_by_message, with_new, triggered_orders, again_after}
 use Rattle.dx_book.proofs.Walks.{from_place, none_behind}
 use Rattle.dx_replay.specs.Parts.{again_of, if_held, newly, new_orders}
 
@@ -87,22 +87,33 @@ messages_end s ms codes k list whole h made =
     ap (with_new list) (sym (ap (λ l. new_orders s l (drop k codes)) (drop_all k ms h) ∙ no_messages s (drop k codes))) ∙ made
 
 -- the parts of a node make its list
-list_of : (p : Node) (after : State) (msgs : List Msg) (results : List ℕ)
-    → with_new (filter_map (again_of p.queue p.book after) (named_by p.queue)) (new_orders after msgs results) ≡ again_after p after msgs results
+list_of : (p : Node) (after : State) (msgs : List Msg) (results : List ℕ) (triggered : List OrderId)
+    → with_new (with_new (filter_map (again_of p.queue p.book after) (named_by p.queue)) (new_orders after msgs results)) (triggered_orders after triggered)
+    ≡ again_after p after msgs results triggered
 unfolding again_after new_orders
-list_of p after msgs results = refl
+list_of p after msgs results triggered = refl
 
-pub list_is : (queue : List Op) (book : List Order) (after : State) (msgs same_msgs : List Msg) (results same_results : List ℕ) (first list : List Order)
-    → first ≡ filter_map (again_of queue book after) (named_by queue) → same_msgs ≡ msgs → same_results ≡ results → list ≡ with_new first (new_orders after same_msgs same_results)
-    → (p : Node) → p.queue ≡ queue → p.book ≡ book → list ≡ again_after p after msgs results
-list_is queue book after msgs same_msgs results same_results first list e m r h p q b =
+-- the orders that a queue mentions, and those that messages placed behind them
+placed_is : (queue : List Op) (book : List Order) (after : State) (msgs same_msgs : List Msg) (results same_results : List ℕ) (first placed : List Order)
+    → first ≡ filter_map (again_of queue book after) (named_by queue) → same_msgs ≡ msgs → same_results ≡ results → placed ≡ with_new first (new_orders after same_msgs same_results)
+    → (p : Node) → p.queue ≡ queue → p.book ≡ book → placed ≡ with_new (filter_map (again_of p.queue p.book after) (named_by p.queue)) (new_orders after msgs results)
+placed_is queue book after msgs same_msgs results same_results first placed e m r h p q b =
     h
     ∙ ap (λ l. with_new l (new_orders after same_msgs same_results)) e
     ∙ ap (λ l. with_new (filter_map (again_of queue book after) (named_by queue)) (new_orders after l same_results)) m
     ∙ ap (λ l. with_new (filter_map (again_of queue book after) (named_by queue)) (new_orders after msgs l)) r
     ∙ ap (λ l. with_new (filter_map (again_of l book after) (named_by l)) (new_orders after msgs results)) (sym q)
     ∙ ap (λ l. with_new (filter_map (again_of p.queue l after) (named_by p.queue)) (new_orders after msgs results)) (sym b)
-    ∙ list_of p after msgs results
+
+pub list_is : (queue : List Op) (book : List Order) (after : State) (msgs same_msgs : List Msg) (results same_results : List ℕ) (triggered same_triggered : List OrderId) (first placed list : List Order)
+    → first ≡ filter_map (again_of queue book after) (named_by queue) → same_msgs ≡ msgs → same_results ≡ results → placed ≡ with_new first (new_orders after same_msgs same_results)
+    → same_triggered ≡ triggered → list ≡ with_new placed (triggered_orders after same_triggered)
+    → (p : Node) → p.queue ≡ queue → p.book ≡ book → list ≡ again_after p after msgs results triggered
+list_is queue book after msgs same_msgs results same_results triggered same_triggered first placed list e m r h t i p q b =
+    i
+    ∙ ap (λ l. with_new placed (triggered_orders after l)) t
+    ∙ ap (λ l. with_new l (triggered_orders after triggered)) (placed_is queue book after msgs same_msgs results same_results first placed e m r h p q b)
+    ∙ list_of p after msgs results triggered
 
 -- an order whose id the list names adds nothing
 pub named_already : (list same : List Order) (found : Option Order) (o : Order) (listed : Bool) → found ≡ Some o → listed ≡ list_any (λ p. is_same_id p.id o.id) same → listed ≡ true → same ≡ list

@@ -1,6 +1,5 @@
 -- The list to place again, by the parts of a node.
-use Rattle.std.specs.Prelude.{ℕ, if◌then◌else◌, List, Option, Some, None, filter}
-use Rattle.std.specs.List.{filter_map, zip}
+use Rattle.std.specs.Prelude.{ℕ, if◌then◌else◌, List, Option, Some, None}
 use Rattle.std.specs.Option.{option_or}
 use Rattle.std.specs.FinMap.{get}
 use Rattle.dx_types.specs.declared.OrderId.{OrderId}
@@ -10,7 +9,7 @@ use Rattle.dx_types.specs.declared.Msg.{Msg}
 use Rattle.dx_spec.specs.State.{State, is_short_term}
 use Rattle.dx_node_spec.specs.Book.{resting}
 use Rattle.dx_node_spec.specs.Queue.{placed_by}
-use Rattle.dx_node_spec.specs.Commits.{holds_as_is, placed_by_message}
+use Rattle.dx_node_spec.specs.Commits.{holds_as_is, placed_by_message, placed_by_messages}
 
 -- the order of an id that a queue mentions: a short-term one as it rests, else as it was placed last; any other as the
 -- state has it
@@ -30,4 +29,4 @@ newly after m code = if_held after (placed_by_message (m, code))
 
 -- the orders of all messages that are such
 unfoldable pub new_orders : State → List Msg → List ℕ → List Order
-new_orders after msgs results = filter (holds_as_is after) (filter_map placed_by_message (zip msgs results))
+new_orders after msgs results = placed_by_messages after msgs results

@@ -6,7 +6,7 @@ ghost use Rattle.dx_types.specs.declared.Order.{Order as AnyOrder};
 ghost use Rattle.dx_spec.specs.Orders.{is_same_id as is_one_id};
 ghost use Rattle.dx_node_spec.specs.Queue.{named_by};
 ghost use Rattle.dx_node_spec.specs.Node.{Node};
-ghost use Rattle.dx_node_spec.specs.Commits.{holds_as_is as has_as_is, placed_by_message, with_new, again_after};
+ghost use Rattle.dx_node_spec.specs.Commits.{holds_as_is as has_as_is, placed_by_message, with_new, triggered_orders, again_after};
 ghost use Rattle.dx_replay.specs.Parts.{again_of, newly, new_orders};
 
 use dx_book::Book;
@@ -78,7 +78,7 @@ fn mentioned_orders<L: Ledger>(
     Ok(list)
 }
 
-/// The order that a message placed, if its result is good.
+/// The order that a message let stand at once, if its result is good.
 fn placed_order(msg: &Msg, code: u32) -> Option<Order>
     ensures { result ≡ placed_by_message (msg.now, code) }
 {
@@ -90,7 +90,8 @@ fn placed_order(msg: &Msg, code: u32) -> Option<Order>
         Msg::Deposit { .. }
         | Msg::Withdraw { .. }
         | Msg::Transfer { .. }
-        | Msg::CancelStateful(_) => None,
+        | Msg::CancelStateful(_)
+        | Msg::PlaceConditional { .. } => None,
     }
 }
 
@@ -148,14 +149,29 @@ fn add_placed<L: Ledger>(
     Ok(())
 }
 
+/// Puts the orders that were triggered, as the ledger has them, behind a list that does not name them.
+fn add_triggered<L: Ledger>(
+    after: &L,
+    list: &mut List<Order>,
+    triggered: &[OrderId],
+) -> Result<(), NoMemory>
+    ensures { OnOk result (list.new ≡ with_new list.old (triggered_orders (L.content after.now) triggered.now)) }
+{
+    for id in triggered {
+        add_new(list, after.stateful(id))?;
+    }
+    Ok(())
+}
+
 /// The orders that a node places again after a block ("After a commit" in docs/RULES.md), in their order, with at most
 /// one of each id.
 ///
 /// First come the orders whose ids the node's operations mention, in the order of first mention: a short-term one as
 /// it rests, else as it was placed last, and any other as the ledger after the block has it. An id of neither adds
 /// nothing. Behind them come the orders that the block's good messages placed, in order, where the ledger has that
-/// very order and the list does not name its id. `results` are the results of the messages by place; a message
-/// without a result is not good.
+/// very order and the list does not name its id, and then the orders of `triggered`, in order, as the ledger has them,
+/// where the list does not name them. `results` are the results of the messages by place; a message without a result
+/// is not good. `triggered` are the ids of the orders that the block triggered.
 ///
 /// `NoMemory` where there is none for the list.
 pub fn again<L: Ledger>(
@@ -165,11 +181,13 @@ pub fn again<L: Ledger>(
     after: &L,
     msgs: &List<Msg>,
     results: &List<u32>,
+    triggered: &List<OrderId>,
 ) -> Result<List<Order>, NoMemory>
     ensures { IfOk result (λ list. (p : Node) → p.queue ≡ queue.now → p.book ≡ book.now.orders
-        → list ≡ again_after p (L.content after.now) msgs.now results.now) }
+        → list ≡ again_after p (L.content after.now) msgs.now results.now triggered.now) }
 {
     let mut list = mentioned_orders(alloc, queue, book, after)?;
     add_placed(after, &mut list, msgs.as_slice(), results.as_slice())?;
+    add_triggered(after, &mut list, triggered.as_slice())?;
     Ok(list)
 }

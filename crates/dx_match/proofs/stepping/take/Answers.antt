@@ -1,6 +1,6 @@
 use Rattle.std.proofs.Common.{sym, ◌∙◌}
 use Rattle.dx_accounts.proofs.Settled.{then_ok}
-use Rattle.dx_node_spec.proofs.Ids.{swapped_ids}
+use Rattle.dx_spec.proofs.Same.{swapped_ids}
 use Rattle.dx_match.specs.Seen.{seen}
 use Rattle.dx_match.proofs.Turns.{takes_other, takes_not_own}
 use Rattle.dx_match.proofs.Standing.{keeps_itself}

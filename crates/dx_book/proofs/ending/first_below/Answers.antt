@@ -1,0 +1,8 @@
+use Rattle.std.proofs.Common.{true, ◌∙◌}
+use Rattle.dx_book.specs.Expiries.{is_over}
+use Rattle.dx_book.specs.Standing.{items_in}
+use Rattle.dx_book.proofs.Expired.{order_there}
+use Rattle.dx_book.proofs.ending.first_below.Goals as goal
+
+pub returns : goal.returns
+returns c = c.order_at.ensures ∙ order_there (is_over true c.args.height) (items_in c.args.parts.now) c.args.parts.now c.first_over.result c.requires c.first_over.ensures
