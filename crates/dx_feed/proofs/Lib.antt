@@ -1,0 +1,4 @@
+mod Names
+pub mod Lists
+pub mod Following
+mod Places
