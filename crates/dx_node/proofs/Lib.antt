@@ -15,3 +15,6 @@ pub mod Voting
 pub mod Stays
 pub mod Started
 pub mod Restarted
+pub mod Resumed
+pub mod Above
+pub mod Leaving

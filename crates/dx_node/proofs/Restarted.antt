@@ -2,12 +2,11 @@
 use Rattle.std.proofs.Common.{◌≡◌, ℕ, ◌+◌, ◌≤◌, List, [], ◌∷◌, Option, Some, None, Result, Ok, Err, refl, sym, ap, subst, ◌∙◌, arith}
 use Rattle.std.specs.Prelude.{length, IfSome, IfErr}
 use Rattle.std.specs.Result.{result_unwrap_or}
-use Rattle.std.specs.FinMap.{empty, values}
+use Rattle.std.specs.FinMap.{values}
 use Rattle.dx_types.specs.declared.Genesis.{Genesis}
 use Rattle.dx_types.specs.declared.Block.{Block}
 use Rattle.dx_types.specs.declared.Bad.{Bad}
 use Rattle.dx_types.specs.declared.Order.{Order}
-use Rattle.dx_spec.specs.Step.{◌>>=◌}
 use Rattle.dx_spec.specs.State.{State, genesis_state}
 use Rattle.dx_spec.specs.Bounds.{most_orders}
 use Rattle.dx_spec.specs.Genesis.{IsGenesis}
@@ -23,50 +22,56 @@ use Rattle.dx_rules.specs.Settled.{IsSettled}
 use Rattle.dx_rules.proofs.Blocking.{IsSteady-IsSettled}
 use Rattle.dx_history.specs.Chains.{kept}
 use Rattle.dx_node_spec.specs.Node.{Node, committed}
-use Rattle.dx_node_spec.specs.Commits.{restarted}
-use Rattle.dx_speculation.proofs.Committing.{restarting_is_faithful}
-use Rattle.dx_speculation.proofs.Replayable.{restarting_makes_replayable}
+use Rattle.dx_node_spec.specs.Commits.{restarted, resumed}
+use Rattle.dx_speculation.proofs.Committing.{resuming_is_faithful}
+use Rattle.dx_speculation.proofs.Replayable.{resuming_makes_replayable}
 use Rattle.dx_node.specs.declared.faults.RestartFault.{RestartFault}
 use Rattle.dx_node.specs.Held.{Held, IsKept}
 use Rattle.dx_node.specs.Standing.{StandsFor}
-use Rattle.dx_node.specs.Starts.{IsUnkept, Begins, IsChainOf, IsBegun}
+use Rattle.dx_node.specs.Starts.{IsUnkept, Begins, IsChainOf, IsBegun, IsAnew}
 use Rattle.dx_node.specs.Restarts.{Restarts, RestartRefused, BeginsRows}
 use Rattle.dx_node.proofs.Plain.{genesis_same, empty_leads, stand_back, stands_by, plain, kept_by}
 
 -- blocks leave the genesis
-same_genesis : (s : State) (bs : List Block) (t : State) → Sound s → fold_from s bs ≡ Ok t → t.genesis ≡ s.genesis
+pub same_genesis : (s : State) (bs : List Block) (t : State) → Sound s → fold_from s bs ≡ Ok t → t.genesis ≡ s.genesis
 unfolding fold_from
 same_genesis s [] t h e = ap (λ (u : State). u.genesis) (sym (ok_same s t e))
 same_genesis s (b ∷ bs) t h e =
     let a = stage_passes (block_step s b) (λ r. fold_from r.0 bs) t e in
     same_genesis a.0.0 bs t (Sound-block_step s b a.0 h a.1) a.2 ∙ (moves_on s b a.0 h a.1).0
 
--- a node of a number that has nothing but a state between blocks, and its stateful orders to place
-pub record IsAnew (number : ℕ) (n : Held) : Type 0 where
-  pub speculative : n.speculative ≡ n.committed
-  pub number_is : n.number ≡ number
-  pub queue : n.queue ≡ []
-  pub book : n.book ≡ []
-  pub cancels : n.cancels ≡ empty
-  pub pool : n.pool ≡ []
-  pub feed : n.feed ≡ empty
-  pub again : n.again ≡ values n.committed.stateful
-
 -- the plain node that it stands for
-stands_anew : (n : Held) (p : Node) (blocks : List Block) → IsGenesis p.genesis → IsAnew p.number n → fold_from (genesis_state p.genesis) blocks ≡ Ok n.committed → StandsFor n (restarted p blocks)
-unfolding restarted committed
-stands_anew n p blocks k a e =
-    stands_by n (restarted p blocks) e (same_genesis (genesis_state p.genesis) blocks n.committed (Sound-genesis p.genesis k) e ∙ genesis_same p.genesis)
+pub stands_begun : (n : Held) (p : Node) (blocks : List Block) → n.committed.genesis ≡ p.genesis → IsAnew p.number n → fold_from (genesis_state p.genesis) blocks ≡ Ok n.committed
+    → StandsFor n (restarted p blocks)
+unfolding restarted resumed committed
+stands_begun n p blocks g a e =
+    stands_by n (restarted p blocks) e g
     (empty_leads n.committed n.speculative (n.committed.clock.height + 1) n.queue a.queue a.speculative) a.number_is a.queue a.book a.cancels a.pool a.feed
     (a.again ∙ ap (λ (r : Result State Bad). values (result_unwrap_or r (genesis_state p.genesis)).stateful) (sym e))
 
+stands_anew : (n : Held) (p : Node) (blocks : List Block) → IsGenesis p.genesis → IsAnew p.number n → fold_from (genesis_state p.genesis) blocks ≡ Ok n.committed → StandsFor n (restarted p blocks)
+stands_anew n p blocks k a e =
+    stands_begun n p blocks (same_genesis (genesis_state p.genesis) blocks n.committed (Sound-genesis p.genesis k) e ∙ genesis_same p.genesis) a e
+
+-- the plain node that it stands for where it starts from a state
+pub stands_resumed : (n : Held) (p : Node) (s : State) (blocks : List Block) → Sound s → s.genesis ≡ p.genesis → IsAnew p.number n → fold_from s blocks ≡ Ok n.committed
+    → StandsFor n (resumed p s blocks)
+unfolding resumed committed
+stands_resumed n p s blocks h g a e =
+    stands_by n (resumed p s blocks) e (same_genesis s blocks n.committed h e ∙ g)
+    (empty_leads n.committed n.speculative (n.committed.clock.height + 1) n.queue a.queue a.speculative) a.number_is a.queue a.book a.cancels a.pool a.feed
+    (a.again ∙ ap (λ (r : Result State Bad). values (result_unwrap_or r s).stateful) (sym e))
+
 -- what the type keeps of it
-pub kept_anew : (g n : Held) (Told : List Block → Type 0) → IsKept g → IsAnew g.number n → IsSettled n.committed → Begins g.committed.genesis Told n.committed → IsKept n
-kept_anew g n Told k a settled b =
-    let p = plain g in
-    let of = k.settled.genesis in
-    kept_by n (restarted p b.blocks) (stands_anew n p b.blocks of a b.leads) (restarting_is_faithful p b.blocks n.committed of b.leads) (restarting_makes_replayable p b.blocks n.committed of b.leads)
-    settled (subst IsSteady (sym a.speculative) (IsSteady-IsSettled n.committed settled)) (subst (λ (os : List Order). length os ≤ most_orders) (sym a.book) (omega arith))
+pub kept_anew : (number : ℕ) (n : Held) → IsAnew number n → IsSettled n.committed → IsKept n
+unfolding fold_from
+kept_anew number n a settled =
+    let p = plain n in
+    let t = n.committed in
+    let own = subst (λ (m : ℕ). IsAnew m n) (sym a.number_is) a in
+    kept_by n (resumed p t []) (stands_resumed n p t [] settled.sound refl own refl)
+    (resuming_is_faithful p t [] t settled.sound settled.balanced refl) (resuming_makes_replayable p t [] t settled.sound settled.balanced refl)
+    settled (subst IsSteady (sym a.speculative) (IsSteady-IsSettled t settled)) (subst (λ (os : List Order). length os ≤ most_orders) (sym a.book) (omega arith))
 
 -- so it starts anew from the rows
 pub starts_anew : (rows : Option Rows) (g h n : Held) (p : Node) (height : ℕ) → g ≡ h → IsKept g → IsAnew g.number n → Begins g.committed.genesis (IsChainOf rows g.committed.genesis g.number) n.committed

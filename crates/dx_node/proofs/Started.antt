@@ -5,10 +5,11 @@ use Rattle.std.specs.FinMap.{get}
 use Rattle.std.proofs.lemmas.Bool.Decides.{nat_tests}
 use Rattle.dx_types.specs.declared.Genesis.{Genesis}
 use Rattle.dx_types.specs.declared.Block.{Block}
+use Rattle.dx_types.specs.declared.OrderId.{OrderId}
 use Rattle.dx_types.specs.declared.Bad.{Bad}
 use Rattle.dx_spec.specs.Step.{◌>>=◌}
 use Rattle.dx_spec.specs.State.{State, genesis_state}
-use Rattle.dx_spec.specs.Blocks.{block_step, fold_from}
+use Rattle.dx_spec.specs.Blocks.{Applied, block_step, fold_from}
 use Rattle.dx_io.specs.Causes.{Rose}
 use Rattle.dx_io.specs.declared.row_key.RowKey.{RowKey}
 use Rattle.dx_io.specs.Rows.{Rows, SameRows, FindsRow, CountsRows, row_count}
@@ -61,13 +62,13 @@ read_on a b c x y z first second h k =
     }
 
 -- a block of the rows that is good goes before what is told of those above it
-kept_more : (r : Rows) (node height more : ℕ) (s t : State) (b : Block) (results : List ℕ) (told : Result (List Block) Unkept)
-    → block_at r node height ≡ Some b → block_step s b ≡ Ok (t, results) → kept_from t r node (height + 1) more ≡ told
+kept_more : (r : Rows) (node height more : ℕ) (s t : State) (b : Block) (results : List ℕ) (triggered : List OrderId) (told : Result (List Block) Unkept)
+    → block_at r node height ≡ Some b → block_step s b ≡ Ok (t, results, triggered) → kept_from t r node (height + 1) more ≡ told
     → kept_from s r node height (suc more) ≡ behind b told
 unfolding kept_from
-kept_more r node height more s t b results told here good above =
+kept_more r node height more s t b results triggered told here good above =
     ap (λ (o : Option Block). ok_or (good_on s o) (BadAt height) >>= λ k. behind k.0 (kept_from k.1 r node (height + 1) more)) here
-    ∙ ap (λ (q : Result (State × List ℕ) Bad). ok_or (option_map {T = State} {U = Block × State} (λ u. (b, u)) (after_good q)) (BadAt height) >>= λ k. behind k.0 (kept_from k.1 r node (height + 1) more)) good
+    ∙ ap (λ (q : Result (Applied) Bad). ok_or (option_map {T = State} {U = Block × State} (λ u. (b, u)) (after_good q)) (BadAt height) >>= λ k. behind k.0 (kept_from k.1 r node (height + 1) more)) good
     ∙ ap (behind b) above
 
 -- where there is none that is good, that is told
@@ -92,7 +93,7 @@ no_block : (g : Genesis) (s : State) (r : Rows) (node height more : ℕ) (b : Bl
 no_block g s r node height more b blocks.NoMemory here e = tt
 no_block g s r node height more b (blocks.Bad bad) here e =
     kept_none r node height more s
-    (ap (good_on s) here ∙ ap (λ (q : Result (State × List ℕ) Bad). option_map {T = State} {U = Block × State} (λ u. (b, u)) (after_good q)) e)
+    (ap (good_on s) here ∙ ap (λ (q : Result (Applied) Bad). option_map {T = State} {U = Block × State} (λ u. (b, u)) (after_good q)) e)
 
 pub block_refused : (g : Genesis) (s : State) (r : Rows) (node height more : ℕ) (b : Block) (fault : BlockFault) (told : RestartFault)
     → told ≡ fold_fault fault height → block_at r node height ≡ Some b → Refuses fault (block_step s b) → IsUnkept g (kept_from s r node height (suc more)) told
@@ -111,14 +112,14 @@ leads_more : (rows : Option Rows) (node height more : ℕ) (s t u : State) → A
 unfolding fold_from
 leads_more rows node height more s t u a l = record {
   blocks = a.block ∷ l.blocks;
-  leads = ap (λ (r : Result (State × List ℕ) Bad). r >>= λ after. fold_from after.0 l.blocks) a.good ∙ l.leads;
+  leads = ap (λ (r : Result (Applied) Bad). r >>= λ after. fold_from after.0 l.blocks) a.good ∙ l.leads;
   told = both rows a.told l.told;
 }
   where
     both : (o : Option Rows) → IfSome o (λ r. block_at r node height ≡ Some a.block) → IfSome o (λ r. kept_from t r node (height + 1) more ≡ Ok l.blocks)
         → IfSome o (λ r. kept_from s r node height (suc more) ≡ Ok (a.block ∷ l.blocks))
     both None h k = tt
-    both (Some r) h k = kept_more r node height more s t a.block a.results (Ok l.blocks) h a.good k
+    both (Some r) h k = kept_more r node height more s t a.block a.results a.triggered (Ok l.blocks) h a.good k
 
 -- what is left of the rows decides what is told of all
 pub record IsUnderWay (rows : Option Rows) (node first all : ℕ) (s : State) (height more : ℕ) (now : State) : Type 0 where
@@ -128,7 +129,7 @@ pub record IsUnderWay (rows : Option Rows) (node first all : ℕ) (s : State) (h
 pub way_first : (rows : Option Rows) (node first all : ℕ) (s : State) → IsUnderWay rows node first all s first all s
 way_first rows node first all s = record { good = λ t l. l; bad = λ r e u i. i }
 
-told_at : (rows : Option Rows) (P : Rows → Type 0) (r : Rows) → rows ≡ Some r → IfSome rows P → P r
+pub told_at : (rows : Option Rows) (P : Rows → Type 0) (r : Rows) → rows ≡ Some r → IfSome rows P → P r
 told_at None P r e k = absurd (cc)
 told_at (Some q) P r e k = subst P (some_same q r e) k
   where
@@ -139,7 +140,7 @@ one_more : (rows : Option Rows) (node first all : ℕ) (s : State) (height more 
     → IsUnderWay rows node first all s height (suc more) now → Adds rows node height now next → IsUnderWay rows node first all s (height + 1) more next
 one_more rows node first all s height more now next w a = record {
   good = λ t l. w.good t (leads_more rows node height more now next t a l);
-  bad = λ r e u i. w.bad r e u (kept_more r node height more now next a.block a.results (Err u) (told_at rows (λ q. block_at q node height ≡ Some a.block) r e a.told) a.good i);
+  bad = λ r e u i. w.bad r e u (kept_more r node height more now next a.block a.results a.triggered (Err u) (told_at rows (λ q. block_at q node height ≡ Some a.block) r e a.told) a.good i);
 }
 
 pub way_next : (rows : Option Rows) (node first all : ℕ) (s : State) (height count : ℕ) (now next : State) → height < count
@@ -165,6 +166,7 @@ pub adds_before : (a b : Option Rows) (node height : ℕ) (s t : State) → Same
 adds_before a b node height s t h k = record {
   block = k.block;
   results = k.results;
+  triggered = k.triggered;
   good = k.good;
   told = said_before (λ r. block_at r node height ≡ Some k.block) a b h k.told;
 }

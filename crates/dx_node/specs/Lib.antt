@@ -8,6 +8,8 @@ pub mod Ready
 pub mod Pool
 pub mod Short
 pub mod Faults
+pub mod Counts
 pub mod Laws
 pub mod Restarts
 pub mod Starts
+pub mod Resumes

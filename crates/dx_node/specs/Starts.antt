@@ -1,7 +1,9 @@
 -- What the rows of a node are told to be: the blocks from which it starts anew, or why they are none.
-use Rattle.std.specs.Prelude.{◌≡◌, ℕ, ◌≤◌, List, Option, Some, None, Result, Ok, Err, IfSome, IsErrOf}
+use Rattle.std.specs.Prelude.{◌≡◌, ℕ, ◌≤◌, List, [], Option, Some, None, Result, Ok, Err, IfSome, IsErrOf}
+use Rattle.std.specs.FinMap.{empty, values}
 use Rattle.dx_types.specs.declared.Genesis.{Genesis}
 use Rattle.dx_types.specs.declared.Block.{Block}
+use Rattle.dx_types.specs.declared.OrderId.{OrderId}
 use Rattle.dx_spec.specs.State.{State, genesis_state}
 use Rattle.dx_spec.specs.Blocks.{block_step, fold_from}
 use Rattle.dx_io.specs.Causes.{Rose}
@@ -9,6 +11,7 @@ use Rattle.dx_io.specs.Rows.{Rows, SameRows, row_count}
 use Rattle.dx_codec.specs.Genesis.{digest_of}
 use Rattle.dx_history.specs.Rows.{block_at}
 use Rattle.dx_history.specs.Chains.{Unkept, BadAt, OtherGenesis, kept_from, kept, begun}
+use Rattle.dx_node.specs.Held.{Held}
 use Rattle.dx_node.specs.declared.faults.RestartFault.{RestartFault}
 use Rattle.dx_node.specs.declared.faults.RestartFault.TheVariants as restarts
 
@@ -23,7 +26,8 @@ IsUnkept g told restarts.NoMemory = Unit {0}
 pub record Adds (rows : Option Rows) (node height : ℕ) (s t : State) : Type 0 where
   pub block : Block
   pub results : List ℕ
-  pub good : block_step s block ≡ Ok (t, results)
+  pub triggered : List OrderId
+  pub good : block_step s block ≡ Ok (t, results, triggered)
   pub told : IfSome rows (λ r. block_at r node height ≡ Some block)
 
 -- blocks that lead from one state to another, so many of the rows from a height on
@@ -57,3 +61,14 @@ abbrev pub IsBegun : Option Rows → Option Rows → Genesis → ℕ → Type 0
 IsBegun None after g node = Unit {0}
 IsBegun (Some rows) None g node = ⊥
 IsBegun (Some rows) (Some after) g node = after ≡ begun rows node g
+
+-- a node of a number that has nothing but a state between blocks, and its stateful orders to place
+pub record IsAnew (number : ℕ) (n : Held) : Type 0 where
+  pub speculative : n.speculative ≡ n.committed
+  pub number_is : n.number ≡ number
+  pub queue : n.queue ≡ []
+  pub book : n.book ≡ []
+  pub cancels : n.cancels ≡ empty
+  pub pool : n.pool ≡ []
+  pub feed : n.feed ≡ empty
+  pub again : n.again ≡ values n.committed.stateful

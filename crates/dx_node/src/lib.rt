@@ -13,12 +13,15 @@
 //!
 //! [`Node::commit`] sets one row of a keeper, the bytes of its block, once there is memory for all else, and
 //! [`Node::restart`] starts anew from the rows: it answers a chain of good blocks, or the first row that is none
-//! (`specs/Restarts`). Where a call fails, the node and the rows are as before. A stateful order that rests stands in
-//! the state after the queue ([`resting_stand`]).
+//! (`specs/Restarts`). [`Node::resume`] starts from a state and the rows above it (`specs/Resumes`); where that is the
+//! state of the node's first blocks, the node is the one that a restart gives ([`resumed_is_restarted`]). Where a call
+//! fails, the node and the rows are as before. A stateful order that rests stands in the state after the queue
+//! ([`resting_stand`]).
 //!
-//! After [`Node::commit`] a list of orders is to be placed again, and after [`Node::restart`] all stateful orders:
+//! After [`Node::commit`] a list of orders is to be placed again, and after [`Node::restart`] and [`Node::resume`] all
+//! stateful orders:
 //! [`Node::replay_next`] places the first of the list, and [`Node::pending`] tells how many are left. All other calls
-//! but a restart and the reads are made where none is left.
+//! but a restart, a resume and the reads are made where none is left.
 //! The type keeps (`specs/Held`) that the queue leads to the speculative state, that each order of the book may rest in
 //! it, and that no order of the list rests before it is placed.
 #![tactic(auto)]
@@ -31,6 +34,7 @@ mod faults;
 mod feed;
 mod laws;
 mod node;
+mod pending;
 mod placed;
 mod placing;
 mod pool;
@@ -39,19 +43,20 @@ mod proposing;
 mod reads;
 mod refusal;
 mod restarting;
+mod resuming;
 mod suspended;
 mod sweeping;
 mod trades;
 mod votes;
-mod waiting;
 
 pub use faults::{
     CancelFault, CommitFault, FeedFault, MessageFault, PlaceFault, ProposeFault, RestartFault,
-    SweepFault,
+    ResumeFault, SweepFault,
 };
 pub use laws::{
-    cancelling_stays, committed_leave_pool, committed_stays, listed_rest_not, pooling_stays,
-    proposal_has_pool, resting_stand,
+    cancelling_stays, chain_is_resumed, committed_leave_pool, committed_stays, listed_rest_not,
+    pooling_stays, proposal_has_pool, resting_stand, resumed_is_restarted,
+    rows_above_are_of_blocks,
 };
 pub use node::Node;
 pub use placed::Placed;

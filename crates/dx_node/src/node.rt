@@ -1,11 +1,13 @@
 //! A node, and its calls.
 
-ghost use Rattle.std.specs.Prelude.{◌≡◌, ◌+◌, true, false, [], length, Ok, OnOk, IfOk, IfErr, OnErr, IsOk, IsErrOf, ◌≤◌};
+ghost use Rattle.std.specs.Prelude.{◌≡◌, ◌+◌, true, false, [], length, None, Ok, OnOk, IfOk, IfErr, OnErr, IsOk, IsErrOf, ◌≤◌};
+ghost use Rattle.std.specs.FinMap.{values};
 ghost use Rattle.dx_spec.specs.Blocks.{block_step};
 ghost use Rattle.dx_spec.specs.Genesis.{IsGenesis};
 ghost use Rattle.dx_spec.specs.Audits.{audit as audit_of};
 ghost use Rattle.dx_operations.specs.Faults.{Refuses};
-ghost use Rattle.dx_work.specs.Lines.{committed as committed_in, present as present_in};
+ghost use Rattle.dx_rules.specs.Settled.{IsSettled};
+ghost use Rattle.dx_work.specs.Lines.{committed as committed_in, present as present_in, aside_of};
 ghost use Rattle.dx_node_spec.specs.Node.{Node as PlainNode, new_node, committed as committed_of, speculative as speculative_of};
 ghost use Rattle.dx_node_spec.specs.Placing.{place as placed_with};
 ghost use Rattle.dx_node_spec.specs.Events.{fed, pooled, cancel as cancelled_with, cancel_all as all_cancelled_with, sweep as swept_with};
@@ -13,14 +15,19 @@ ghost use Rattle.dx_node_spec.specs.Commits.{commit as committed_with, replay_ne
 ghost use Rattle.dx_node_spec.specs.Proposals.{proposal_at, propose as proposed};
 ghost use Rattle.dx_node_spec.specs.Reads as tells;
 ghost use Rattle.dx_speculation.specs.Faithful.{IsGoodBlock};
+ghost use Rattle.dx_node_spec.specs.Reads.{shown_by};
 ghost use Rattle.dx_node.specs.Short.{IsShort};
 ghost use Rattle.dx_node.specs.Trades.{outcome_of};
 ghost use Rattle.dx_node.specs.Standing.{StandsFor, LeadsTo, Gives, GivesBoth, Becomes};
 ghost use Rattle.dx_node.specs.Faults.{FeedRefused, PlaceRefused, ProposeRefused, CancelRefused, MessageRefused, SweepRefused};
 ghost use Rattle.dx_node.specs.Restarts.{committed_digest, CommitRefused, Restarts, RestartRefused, BeginsRows};
-ghost use Rattle.dx_io.specs.Causes.{Rose};
+ghost use Rattle.dx_node.specs.Starts.{IsAnew};
+ghost use Rattle.dx_node.specs.Resumes.{Resumes, ResumeRefused};
+ghost use Rattle.dx_node.specs.Counts.{CommitLeaves, RestartLeaves, ResumeLeaves};
+ghost use Rattle.dx_io.specs.Causes.{KeepsCount, Rose};
 ghost use Rattle.dx_io.specs.Rows.{SameRows, SetsRow};
 ghost use Rattle.dx_codec.specs.Blocks.{block_bytes, FitsBlock};
+ghost use Rattle.dx_codec.specs.Building.{IsStateOf};
 ghost use Rattle.dx_history.specs.Rows.{place_of};
 
 use crate::cancelling::{
@@ -30,19 +37,20 @@ use crate::cancels::Cancels;
 use crate::commits::After;
 use crate::faults::{
     CancelFault, CommitFault, FeedFault, MessageFault, PlaceFault, ProposeFault, RestartFault,
-    SweepFault,
+    ResumeFault, SweepFault,
 };
 use crate::feed::Feed;
+use crate::pending::Pending;
 use crate::placed::Placed;
 use crate::placing::{place_again, place_at};
 use crate::pool::add;
 use crate::proposing::check_time;
-use crate::reads::{amount_of, best_of, has_market};
+use crate::reads::{amount_of, best_of, has_market, shown_orders};
 use crate::restarting::{Start, start_anew};
+use crate::resuming::resume_from;
 use crate::suspended::{check_committed, commit_block};
 use crate::sweeping::{Swept, sweep_at};
 use crate::votes::votes;
-use crate::waiting::Waiting;
 use dx_book::Book;
 use dx_codec::encode_state;
 use dx_io::Keeper;
@@ -52,7 +60,10 @@ use dx_replay::purge;
 use dx_rules::{BlockFault, genesis_is_settled, is_price};
 use dx_state::PlainState;
 use dx_trade::filled_of;
-use dx_types::{Account, Audit, Block, Genesis, List, Msg, NoMemory, Order, OrderId, SubaccountId};
+use dx_types::{
+    Account, Audit, Block, Genesis, List, Msg, NoMemory, Order, OrderId, Shown, SubaccountId,
+    Waiting,
+};
 use dx_work::Work;
 use sha2::{Digest, Sha256};
 use std::alloc::Global;
@@ -70,7 +81,7 @@ pub struct Node {
     cancels: Cancels,
     pool: List<Msg>,
     feed: Feed,
-    again: Waiting,
+    again: Pending,
 }
 
 impl Model for Node {
@@ -104,7 +115,7 @@ impl Node {
             cancels: Cancels::new(alloc),
             pool: List::new(alloc),
             feed: Feed::new(),
-            again: Waiting::new(alloc),
+            again: Pending::new(alloc),
         })
     }
 
@@ -118,6 +129,15 @@ impl Node {
         ensures { (p : PlainNode) → StandsFor self.now p → result ≡ p.number }
     {
         self.number
+    }
+
+    /// The genesis that the node was made with.
+    pub fn genesis(&self) -> &Genesis
+        ensures same { (p : PlainNode) → StandsFor self.now p → result.now ≡ p.genesis }
+        ensures good { IsGenesis result.now }
+        ensures own { result.now ≡ self.now.committed.genesis }
+    {
+        self.work.genesis()
     }
 
     /// The height of the last block; 0 before the first.
@@ -152,6 +172,13 @@ impl Node {
         )
     }
 
+    /// An order that waits for its trigger after the blocks, if it does. It takes no memory.
+    pub fn waiting(&self, id: &OrderId) -> Option<Waiting>
+        ensures { (p : PlainNode) → StandsFor self.now p → result ≡ tells.committed_waiting p id.now }
+    {
+        self.work.committed_waiting(id)
+    }
+
     /// The subticks of the best bid and what is left of it, and the same of the best ask, each 0 and 0 where
     /// there is none ("Book" in docs/RULES.md). `None` where the market is unknown. It takes no memory.
     pub fn best(&self, market: u32) -> Option<[u64; 4]>
@@ -163,6 +190,14 @@ impl Node {
         let bid = best_of(&self.work, &self.book, market, true);
         let ask = best_of(&self.work, &self.book, market, false);
         Some([bid.0, bid.1, ask.0, ask.1])
+    }
+
+    /// The orders of the book in order of arrival, each with what is left of it after the queue: base quantums.
+    /// `NoMemory` where there is no memory for the list.
+    pub fn shown(&self) -> Result<List<Shown>, NoMemory>
+        ensures { (p : PlainNode) → StandsFor self.now p → IfOk result (λ list. list ≡ shown_by p) }
+    {
+        shown_orders(&self.work, &self.book)
     }
 
     /// The numbers of the state after the blocks ("Audit" in docs/FORMAT.md). It takes no memory.
@@ -205,14 +240,15 @@ impl Node {
     }
 
     /// Commits a block, and tells the results of its messages: the block becomes the node's last, and its bytes are
-    /// the row of the node's number at its height; no other row changes. The orders that the queue mentions, and those
-    /// that the block's good messages placed, are listed to be placed again by [`Node::replay_next`]; the queue is
-    /// emptied, and what may not rest on leaves the book. Cancels that stand no longer are dropped, for each message of
-    /// the block the first equal one leaves the pool, and the fed prices stay ("Block", "After a commit" and "Rows" in
-    /// docs/RULES.md). All memory is taken before the row is set.
+    /// the row of the node's number at its height; no other row changes. The orders that the queue mentions, those that
+    /// the block's good messages placed, and those that it triggered, are listed to be placed again by
+    /// [`Node::replay_next`]; the queue is emptied, and what may not rest on leaves the book. Cancels that stand no
+    /// longer are dropped, for each message of the block the first equal one leaves the pool, and the fed prices stay
+    /// ("Block", "After a commit" and "Rows" in docs/RULES.md). All memory is taken before the row is set.
     ///
     /// `Bad` with the block's first bad part, exactly as [`Node::check`] has it; `KeepFault` only where the keeper's
-    /// count of faults rose; `NoMemory` where there is none. The node and the rows are then as before.
+    /// count of faults rose; `NoMemory` where there is none. The node and the rows are then as before. A good answer
+    /// and `Bad` leave the count.
     pub fn commit<K: Keeper>(
         &mut self,
         block: &Block,
@@ -228,11 +264,13 @@ impl Node {
             (place_of self.old.number block.now.height) (block_bytes block.now)) }
         ensures fits { OnOk result (FitsBlock block.now) }
         ensures rows { OnErr result (SameRows (K.rows keeper.old) (K.rows keeper.new)) }
+        ensures good { KeepsCount (K.faults keeper.old) (K.faults keeper.new) result }
+        ensures still { IfErr result (CommitLeaves (K.faults keeper.old) (K.faults keeper.new)) }
         ensures later { K.faults keeper.old ≤ K.faults keeper.new }
         ensures failed { IsErrOf result CommitFault.KeepFault → Rose (K.faults keeper.old) (K.faults keeper.new) }
     {
         let After {
-            results,
+            applied,
             again,
             pool,
         } = commit_block(
@@ -248,8 +286,8 @@ impl Node {
         self.queue.clear();
         self.cancels.drop_ended(block.height);
         self.pool = pool;
-        self.again = Waiting::of(again);
-        Ok(results)
+        self.again = Pending::of(again);
+        Ok(applied.results)
     }
 
     /// Starts anew from the rows that a keeper has of the node's number: their blocks are the node's, its queue, book,
@@ -261,7 +299,7 @@ impl Node {
     /// row of a chain ends the call: `KeptOther` exactly where the row at height 0 is 32 bytes other than the digest of
     /// the node's genesis, `KeptBad` exactly where a row below the count is missing, is no block or is one that is not
     /// good, or the row at height 0 is not 32 bytes. `KeepFault` only where the keeper's count of faults rose;
-    /// `NoMemory` where there is none. The node and the rows are then as before.
+    /// `NoMemory` where there is none. The node and the rows are then as before. Every other answer leaves the count.
     pub fn restart<K: Keeper>(&mut self, keeper: &mut K) -> Result<u32, RestartFault>
         ensures ok { IfOk result (λ height. (p : PlainNode) → StandsFor self.old p
             → Restarts (K.rows keeper.old) p self.new height) }
@@ -271,11 +309,27 @@ impl Node {
         ensures begun { OnOk result ((p : PlainNode) → StandsFor self.old p
             → BeginsRows (K.rows keeper.old) (K.rows keeper.new) p) }
         ensures rows { OnErr result (SameRows (K.rows keeper.old) (K.rows keeper.new)) }
+        ensures good { KeepsCount (K.faults keeper.old) (K.faults keeper.new) result }
+        ensures still { IfErr result (RestartLeaves (K.faults keeper.old) (K.faults keeper.new)) }
         ensures later { K.faults keeper.old ≤ K.faults keeper.new }
         ensures failed { IsErrOf result RestartFault.KeepFault → Rose (K.faults keeper.old) (K.faults keeper.new) }
     {
+        let start = start_anew(self.allocator(), keeper, self.number, self.work.genesis())?;
+        Ok(self.take_over(start))
+    }
+
+    /// Takes over what the node starts from, all else empty, and tells its height.
+    fn take_over(&mut self, start: Start) -> u32
+        requires settled { IsSettled (committed_in start.work) }
+        requires speculative { present_in start.work ≡ committed_in start.work }
+        requires nothing { aside_of start.work ≡ None }
+        requires again { start.again ≡ values (committed_in start.work).stateful }
+        ensures anew { IsAnew self.old.number self.new }
+        ensures committed { self.new.committed ≡ committed_in start.work }
+        ensures height { result ≡ self.new.committed.clock.height }
+    {
         let alloc = self.allocator();
-        let Start { work, again } = start_anew(alloc, keeper, self.number, self.work.genesis())?;
+        let Start { work, again } = start;
         let height = work.committed_clock().height;
         self.work = work;
         self.queue = Queue::new(alloc);
@@ -283,8 +337,47 @@ impl Node {
         self.cancels = Cancels::new(alloc);
         self.pool = List::new(alloc);
         self.feed = Feed::new();
-        self.again = Waiting::of(again);
-        Ok(height)
+        self.again = Pending::of(again);
+        height
+    }
+
+    /// Resumes from a state and the blocks of the rows above its height that a keeper has of the node's number: they
+    /// are folded behind the state, and the node's queue, book, cancels, pool and fed prices are empty; the stateful
+    /// orders of the state that is reached are listed, by rising id, to be placed again by [`Node::replay_next`]. The
+    /// answer is the height that is reached ("Snapshots" in docs/RULES.md). The state is a balanced and sound one of
+    /// the node's genesis, as [`Node::committed_copy`] gives one.
+    ///
+    /// `Ahead` exactly where the state's height is not below the count of the node's rows. Then the row at height 0 is
+    /// compared with the digest of the node's genesis, and the rows above the state are read by rising height, each
+    /// block folded before the next row is read; the first that is no row of a chain ends the call with `KeptOther` or
+    /// `KeptBad`, as [`Node::restart`] has them. `KeepFault` only where the keeper's count of faults rose; `NoMemory`
+    /// where there is none. The node is then as before; the rows are so at each end. Every other answer leaves the
+    /// count.
+    pub fn resume<K: Keeper>(&mut self, s: PlainState, keeper: &mut K) -> Result<u32, ResumeFault>
+        requires { IsStateOf self.old.committed.genesis s }
+        ensures ok { IfOk result (λ height. (p : PlainNode) → StandsFor self.old p
+            → Resumes (K.rows keeper.old) p s self.new height) }
+        ensures refused { IfErr result (λ fault. (p : PlainNode) → StandsFor self.old p
+            → ResumeRefused (K.rows keeper.old) p s fault) }
+        ensures same { OnErr result (self.new ≡ self.old) }
+        ensures rows { SameRows (K.rows keeper.old) (K.rows keeper.new) }
+        ensures good { KeepsCount (K.faults keeper.old) (K.faults keeper.new) result }
+        ensures still { IfErr result (ResumeLeaves (K.faults keeper.old) (K.faults keeper.new)) }
+        ensures later { K.faults keeper.old ≤ K.faults keeper.new }
+        ensures failed { IsErrOf result ResumeFault.KeepFault → Rose (K.faults keeper.old) (K.faults keeper.new) }
+    {
+        match resume_from(self.allocator(), keeper, self.number, s) {
+            Ok(start) => Ok(self.take_over(start)),
+            Err(fault) => Err(fault),
+        }
+    }
+
+    /// A copy of the state after the blocks, from which a node may resume. `NoMemory` where there is none for it.
+    pub fn committed_copy(&self) -> Result<PlainState, NoMemory>
+        ensures copy { IfOk result (λ s. (p : PlainNode) → StandsFor self.now p → s ≡ committed_of p) }
+        ensures state { IfOk result (IsStateOf self.now.committed.genesis) }
+    {
+        self.work.committed_copy()
     }
 
     /// The SHA-256 of the bytes of the state after the blocks ("Bytes" in docs/FORMAT.md). `NoMemory` where there is

@@ -6,7 +6,7 @@ ghost use Rattle.dx_types.specs.declared.Genesis.{Genesis as Beginning};
 ghost use Rattle.dx_spec.specs.State.{genesis_state};
 ghost use Rattle.dx_spec.specs.Genesis.{IsGenesis};
 ghost use Rattle.dx_io.specs.Rows.{Rows, SameRows, SetsRow, row_count};
-ghost use Rattle.dx_io.specs.Causes.{Rose};
+ghost use Rattle.dx_io.specs.Causes.{KeepsCount, Rose};
 ghost use Rattle.dx_codec.specs.Genesis.{digest_of};
 ghost use Rattle.dx_history.specs.Rows.{place_of};
 ghost use Rattle.dx_history.specs.Chains.{Unkept, first_fault, first_of, kept_from, kept};
@@ -16,6 +16,7 @@ ghost use Rattle.dx_types.specs.declared.Block.{Block};
 ghost use Rattle.dx_rules.specs.Settled.{IsSettled};
 ghost use Rattle.dx_work.specs.Lines.{committed, present, aside_of};
 ghost use Rattle.dx_node.specs.Faults.{row_fault, fold_fault};
+ghost use Rattle.dx_node.specs.Counts.{RestartLeaves};
 ghost use Rattle.dx_node.specs.Starts.{IsUnkept, Adds, LeadsFrom, Begins, AreCounted, IsChainOf, OnlyReads, IsBegun};
 
 use crate::faults::RestartFault;
@@ -75,6 +76,8 @@ fn next_block<K: Keeper>(
         IfErr result (IsUnkept g (kept_from s.old rows number height (suc more))) }
     ensures read { OnlyReads (K.rows keeper.old) (K.rows keeper.new)
         (K.faults keeper.old) (K.faults keeper.new) result }
+    ensures good { KeepsCount (K.faults keeper.old) (K.faults keeper.new) result }
+    ensures still { IfErr result (RestartLeaves (K.faults keeper.old) (K.faults keeper.new)) }
 {
     let block = match kept_block(keeper, number, height) {
         Ok(block) => block,
@@ -86,26 +89,29 @@ fn next_block<K: Keeper>(
     }
 }
 
-/// Applies the blocks of a node's rows below a count to the state before the first one.
+/// Applies the blocks of a node's rows from a height on, and below a count, to the state before the first one.
 ///
 /// `KeptBad` with the first height at which there is no block, or none that is good behind those before it.
-fn fold_rows<K: Keeper>(
+pub(crate) fn fold_rows<K: Keeper>(
     alloc: Global,
     keeper: &mut K,
     number: u32,
+    first: u32,
     count: u32,
     s: &mut PlainState,
 ) -> Result<(), RestartFault>
     requires settled { IsSettled s.old }
-    requires some { 1 ≤ count }
+    requires some { first ≤ count }
     ensures settled { OnOk result (IsSettled s.new) }
-    ensures ok { OnOk result (LeadsFrom (K.rows keeper.old) number 1 (count - 1) s.old s.new) }
+    ensures ok { OnOk result (LeadsFrom (K.rows keeper.old) number first (count - first) s.old s.new) }
     ensures refused { (rows : Rows) → K.rows keeper.old ≡ Some rows → (g : Beginning) →
-        IfErr result (IsUnkept g (kept_from s.old rows number 1 (count - 1))) }
+        IfErr result (IsUnkept g (kept_from s.old rows number first (count - first))) }
     ensures read { OnlyReads (K.rows keeper.old) (K.rows keeper.new)
         (K.faults keeper.old) (K.faults keeper.new) result }
+    ensures good { KeepsCount (K.faults keeper.old) (K.faults keeper.new) result }
+    ensures still { IfErr result (RestartLeaves (K.faults keeper.old) (K.faults keeper.new)) }
 {
-    for height in 1..count {
+    for height in first..count {
         next_block(alloc, keeper, number, height, s)?;
     }
     Ok(())
@@ -134,7 +140,11 @@ fn check_bytes(bytes: &[u8], ours: &[u8; 32]) -> Result<(), RestartFault>
 /// Tests the row of a node at height 0 against the digest of its genesis.
 ///
 /// `KeptOther` where it is 32 other bytes, and `KeptBad` where it is missing or is not 32 bytes.
-fn check_first<K: Keeper>(keeper: &mut K, number: u32, ours: &[u8; 32]) -> Result<(), RestartFault>
+pub(crate) fn check_first<K: Keeper>(
+    keeper: &mut K,
+    number: u32,
+    ours: &[u8; 32],
+) -> Result<(), RestartFault>
     ensures ok { OnOk result ((g : Beginning) → ours.now ≡ digest_of g →
         IfSome (K.rows keeper.old) (λ rows. first_fault g (get rows (place_of number 0)) ≡ None)) }
     ensures refused { (rows : Rows) → K.rows keeper.old ≡ Some rows → (g : Beginning) → ours.now ≡ digest_of g →
@@ -142,6 +152,8 @@ fn check_first<K: Keeper>(keeper: &mut K, number: u32, ours: &[u8; 32]) -> Resul
         IfErr result (IsUnkept g (first_of (first_fault g (get rows (place_of number 0))) above)) }
     ensures read { OnlyReads (K.rows keeper.old) (K.rows keeper.new)
         (K.faults keeper.old) (K.faults keeper.new) result }
+    ensures good { KeepsCount (K.faults keeper.old) (K.faults keeper.new) result }
+    ensures still { IfErr result (RestartLeaves (K.faults keeper.old) (K.faults keeper.new)) }
 {
     let Some(row) = keeper.get(number, 0)? else {
         return Err(RestartFault::KeptBad { height: 0 });
@@ -150,7 +162,7 @@ fn check_first<K: Keeper>(keeper: &mut K, number: u32, ours: &[u8; 32]) -> Resul
 }
 
 /// What a node of a state between blocks starts from. `NoMemory` where there is none for it.
-fn start_at(alloc: Global, state: PlainState) -> Result<Start, NoMemory>
+pub(crate) fn start_at(alloc: Global, state: PlainState) -> Result<Start, NoMemory>
     ensures committed { IfOk result (λ start. committed start.work ≡ state) }
     ensures speculative { IfOk result (λ start. present start.work ≡ state) }
     ensures nothing { IfOk result (λ start. aside_of start.work ≡ None) }
@@ -166,6 +178,8 @@ fn set_first<K: Keeper>(keeper: &mut K, number: u32, digest: &[u8; 32]) -> Resul
     ensures refused { (g : Beginning) → (told : Outcome (Items Block) Unkept) → IfErr result (IsUnkept g told) }
     ensures set { OnOk result (SetsRow (K.rows keeper.old) (K.rows keeper.new) (place_of number 0) digest.now) }
     ensures rows { OnErr result (SameRows (K.rows keeper.old) (K.rows keeper.new)) }
+    ensures good { KeepsCount (K.faults keeper.old) (K.faults keeper.new) result }
+    ensures still { IfErr result (RestartLeaves (K.faults keeper.old) (K.faults keeper.new)) }
     ensures later { K.faults keeper.old ≤ K.faults keeper.new }
     ensures failed { IsErrOf result RestartFault.KeepFault → Rose (K.faults keeper.old) (K.faults keeper.new) }
 {
@@ -192,6 +206,8 @@ fn begin<K: Keeper>(
     ensures refused { (told : Outcome (Items Block) Unkept) → IfErr result (IsUnkept g.now told) }
     ensures set { OnOk result (SetsRow (K.rows keeper.old) (K.rows keeper.new) (place_of number 0) (digest_of g.now)) }
     ensures rows { OnErr result (SameRows (K.rows keeper.old) (K.rows keeper.new)) }
+    ensures good { KeepsCount (K.faults keeper.old) (K.faults keeper.new) result }
+    ensures still { IfErr result (RestartLeaves (K.faults keeper.old) (K.faults keeper.new)) }
     ensures later { K.faults keeper.old ≤ K.faults keeper.new }
     ensures failed { IsErrOf result RestartFault.KeepFault → Rose (K.faults keeper.old) (K.faults keeper.new) }
 {
@@ -228,12 +244,14 @@ fn go_on<K: Keeper>(
         IfErr result (IsUnkept g.now (kept g.now rows number)) }
     ensures read { OnlyReads (K.rows keeper.old) (K.rows keeper.new)
         (K.faults keeper.old) (K.faults keeper.new) result }
+    ensures good { KeepsCount (K.faults keeper.old) (K.faults keeper.new) result }
+    ensures still { IfErr result (RestartLeaves (K.faults keeper.old) (K.faults keeper.new)) }
 {
     genesis_is_settled();
     let ours = genesis_digest(alloc, g)?;
     let mut state = PlainState::genesis(alloc, g)?;
     check_first(keeper, number, &ours)?;
-    fold_rows(alloc, keeper, number, count, &mut state)?;
+    fold_rows(alloc, keeper, number, 1, count, &mut state)?;
     Ok(start_at(alloc, state)?)
 }
 
@@ -259,6 +277,8 @@ pub(crate) fn start_anew<K: Keeper>(
         IfErr result (IsUnkept g.now (kept g.now rows number)) }
     ensures begun { OnOk result (IsBegun (K.rows keeper.old) (K.rows keeper.new) g.now number) }
     ensures rows { OnErr result (SameRows (K.rows keeper.old) (K.rows keeper.new)) }
+    ensures good { KeepsCount (K.faults keeper.old) (K.faults keeper.new) result }
+    ensures still { IfErr result (RestartLeaves (K.faults keeper.old) (K.faults keeper.new)) }
     ensures later { K.faults keeper.old ≤ K.faults keeper.new }
     ensures failed { IsErrOf result RestartFault.KeepFault → Rose (K.faults keeper.old) (K.faults keeper.new) }
 {

@@ -1,4 +1,4 @@
-use Rattle.std.proofs.Common.{◌-◌, Ok}
+use Rattle.std.proofs.Common.{◌≡◌, ◌-◌, Ok}
 use Rattle.dx_rules.specs.Settled.{IsSettled}
 use Rattle.dx_node.specs.Starts.{OnlyReads}
 use Rattle.dx_node.proofs.Started.{IsUnderWay}
@@ -10,6 +10,7 @@ invariant-loop-height g l =
     let keeper = g.K.Keeper in
     record {
       settled : IsSettled l.s;
-      way : IsUnderWay (keeper.rows l.fn.keeper) l.number 1 (l.count - 1) l.fn.s l.height (l.count - l.height) l.s;
+      way : IsUnderWay (keeper.rows l.fn.keeper) l.number l.first (l.count - l.first) l.fn.s l.height (l.count - l.height) l.s;
       read : OnlyReads {T = Unit {0}} (keeper.rows l.fn.keeper) (keeper.rows l.keeper) (keeper.faults l.fn.keeper) (keeper.faults l.keeper) (Ok tt);
+      good : keeper.faults l.keeper ≡ keeper.faults l.fn.keeper;
     }
