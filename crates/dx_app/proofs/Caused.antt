@@ -1,113 +1,75 @@
 -- How a run ends, and its cause.
-use Rattle.std.proofs.Common.{◌≡◌, ◌-◌, ◌⊎◌, ◌↔◌, inl, inr, ℕ, true, false, IsTrue, List, MatchBool, Option, Some, None, refl, sym, ap, ◌∙◌, arith, lit<, lit≤}
+use Rattle.std.proofs.Common.{◌≡◌, ◌-◌, ◌⊎◌, ◌↔◌, inl, inr, ℕ, true, false, IsTrue, List, MatchBool, Option, Some, None, refl, sym, ap, subst, ◌∙◌, arith, lit<}
 use Rattle.dx_types.specs.declared.status.Status.{Status}
 use Rattle.dx_types.specs.declared.status.Status.TheVariants as ends
-use Rattle.dx_types.specs.declared.Genesis.{Genesis}
 use Rattle.dx_io.specs.Rows.{Rows}
-use Rattle.dx_history.specs.Chains.{Unkept, BadAt, OtherGenesis}
+use Rattle.dx_history.specs.Chains.{BadAt, OtherGenesis}
 use Rattle.dx_words.specs.declared.words.Job.{Job}
 use Rattle.dx_words.specs.declared.words.Job.TheVariants as jobs
 use Rattle.dx_words.specs.declared.words.Words.{Words}
 use Rattle.dx_app.specs.Lines.{cut}
 use Rattle.dx_app.specs.Output.{AppendsFront}
-use Rattle.dx_app.specs.Transcript.{Told, line_limit, genesis_in, unkept_status, scenario, job_told, asked_told}
+use Rattle.dx_app.specs.Transcript.{Told, line_limit, scenario, job_told, asked_told}
 use Rattle.dx_app.specs.Runs.{is_fault, EndsAs, Says, IsRunOf}
-use Rattle.dx_app.specs.Causes.{faults, IsStarted, IsGoodScenario, IsFirstBad, IsTooLong, IsKeptBad, IsKeptOther, IsReplay, IsOwnRun, HadSurely, ComesExactly, IsWhole}
-use Rattle.dx_app.proofs.Starting.{start_fault, or_start, started_law, start_refused, kept_bad_law, kept_other_law}
-use Rattle.dx_app.proofs.Endings.{is_end_of_lines, lines_end, end_by, scenario_status, done_there, done_only, bad_there, bad_only, long_there, long_only}
+use Rattle.dx_app.specs.Causes.{faults, IsGoodScenario, IsFirstBad, IsTooLong, IsKeptBad, IsKeptOther, IsReplay, IsOwnRun, HadSurely, ComesExactly, IsWhole}
+use Rattle.dx_app.proofs.Starting.{Cause, run_only, done_run, bad_run, long_run, refused_run}
 use Rattle.dx_app.proofs.Limits.{follows_limit}
 
--- the status of the lines, and that of nodes that are not started
-abbrev lines_status : List ℕ → Status
-lines_status input = end_by line_limit 1 (faults input)
+-- the cause of how the run of an input ends
+abbrev CauseOf : Rows → List ℕ → Status → Type 0
+CauseOf rows input s = Cause rows (cut input).lines (faults input) s
 
-abbrev start_of : Rows → List ℕ → Option Status
-start_of rows input = start_fault rows (genesis_in (cut input).lines)
-
-unkept_ends : (g : Genesis) (node : ℕ) (unkept : Unkept) → is_end_of_lines (unkept_status g node unkept) ≡ false
-unkept_ends g node (BadAt height) = refl
-unkept_ends g node (OtherGenesis theirs) = refl
-
-start_ends : (rows : Rows) (input : List ℕ) (s : Status) → start_of rows input ≡ Some s → is_end_of_lines s ≡ false
-start_ends rows input s e = let r = start_refused rows (genesis_in (cut input).lines) s e in ap is_end_of_lines (sym r.told) ∙ unkept_ends r.genesis r.node r.unkept
-
-by_lines : (o : Option Status) (rest s : Status) → is_end_of_lines s ≡ true → ((k : Status) → o ≡ Some k → is_end_of_lines k ≡ false) → or_start o rest ≡ s → (o ≡ None) × (rest ≡ s)
-by_lines None rest s ends h e = (refl, e)
-by_lines (Some k) rest s ends h e = let no : is_end_of_lines k ≡ true = ap is_end_of_lines e ∙ ends in let other = h k refl in absurd (cc)
-
-by_start : (o : Option Status) (rest s : Status) → is_end_of_lines s ≡ false → is_end_of_lines rest ≡ true → or_start o rest ≡ s → o ≡ Some s
-by_start None rest s ends h e = let no : is_end_of_lines s ≡ true = ap is_end_of_lines (sym e) ∙ h in absurd (cc)
-by_start (Some k) rest s ends h e = ap Some e
-
--- a run ends as its lines say exactly where the nodes are started
-lines_law : (rows : Rows) (input : List ℕ) (s : Status) → is_end_of_lines s ≡ true → ((scenario rows input).status ≡ s) ↔ (IsStarted rows input × (lines_status input ≡ s))
-lines_law rows input s ends = (
-  λ e.
-      let both = by_lines (start_of rows input) (lines_status input) s ends (start_ends rows input) (sym (scenario_status rows input) ∙ e) in
-      ((started_law rows input).0 both.0, both.1),
-  λ h. scenario_status rows input ∙ ap (λ o. or_start o (lines_status input)) ((started_law rows input).1 h.0) ∙ h.1,
-)
-
--- it ends for a node that is not started exactly where there is one
-start_law : (rows : Rows) (input : List ℕ) (s : Status) → is_end_of_lines s ≡ false → ((scenario rows input).status ≡ s) ↔ (start_of rows input ≡ Some s)
-start_law rows input s ends = (
-  λ e. by_start (start_of rows input) (lines_status input) s ends (lines_end line_limit 1 (faults input)) (sym (scenario_status rows input) ∙ e),
-  λ h. scenario_status rows input ∙ ap (λ o. or_start o (lines_status input)) h,
-)
+ended_by : (rows : Rows) (input : List ℕ) (s : Status) → (scenario rows input).status ≡ s → CauseOf rows input s
+ended_by rows input s e = subst (CauseOf rows input) e (run_only rows (cut input).lines (cut input).tail)
 
 -- a run of lines is done exactly for a good scenario
 good_law : (rows : Rows) (input : List ℕ) → ((scenario rows input).status ≡ ends.Done) ↔ IsGoodScenario rows input
 good_law rows input = (
-  λ e.
-      let l = (lines_law rows input ends.Done refl).0 e in
-      let both = done_only line_limit 1 (faults input) (lit≤ tt) l.1 in
-      record { good = both.0; few = omega (arith, both.1); started = l.0 },
-  λ h. (lines_law rows input ends.Done refl).1 (h.started, done_there line_limit 1 (faults input) h.good (omega (arith, h.few))),
+  λ e. let c = ended_by rows input ends.Done e in record { good = c.good; few = c.few; started = c.started },
+  λ h. done_run rows (cut input).lines (cut input).tail (record { good = h.good; few = h.few; started = h.started }),
 )
 
 -- it ends at a bad line exactly where that is the first
 bad_law : (rows : Rows) (line field : ℕ) (input : List ℕ) → ((scenario rows input).status ≡ ends.BadLine line field) ↔ IsFirstBad rows input line field
 bad_law rows line field input = (
   λ e.
-      let l = (lines_law rows input (ends.BadLine line field) refl).0 e in
-      let r = bad_only line_limit 1 (faults input) line field l.1 in
-      let place : line - 1 ≡ r.place = omega (arith, r.at) in
-      record { first = omega (arith, r.at); last = r.last; bad = rw place r.bad; before = rw place r.before; started = l.0 },
-  λ h. (lines_law rows input (ends.BadLine line field) refl).1 (h.started, bad_there line_limit 1 line (line - 1) field (faults input) h.bad h.before (omega (arith, h.first)) h.last),
+      let c = ended_by rows input (ends.BadLine line field) e in
+      let place : line - 1 ≡ c.place = omega (arith, c.at) in
+      record { first = omega (arith, c.at); last = c.last; bad = rw place c.bad; before = rw place c.before; started = rw place c.started },
+  λ h. bad_run rows (cut input).lines (cut input).tail line field (line - 1) (omega (arith, h.first)) h.last h.bad h.before h.started,
 )
 
 -- it ends as too long exactly where a byte follows too many lines
 long_law : (rows : Rows) (input : List ℕ) → ((scenario rows input).status ≡ ends.Long) ↔ IsTooLong rows input
 long_law rows input = (
   λ e.
-      let l = (lines_law rows input ends.Long refl).0 e in
-      let both = long_only line_limit 1 line_limit (faults input) (omega arith) l.1 in
-      record { follows = (follows_limit line_limit input (lit< tt)).1 both.1; before = both.0; started = l.0 },
-  λ h. (lines_law rows input ends.Long refl).1 (h.started, long_there line_limit 1 line_limit (faults input) h.before ((follows_limit line_limit input (lit< tt)).0 h.follows) (omega arith)),
+      let c = ended_by rows input ends.Long e in
+      record { follows = (follows_limit line_limit input (lit< tt)).1 c.more; before = c.before; started = c.started },
+  λ h. long_run rows (cut input).lines (cut input).tail (record { before = h.before; more = (follows_limit line_limit input (lit< tt)).0 h.follows; started = h.started }),
 )
 
 -- it ends for kept rows exactly where they are none of the genesis
 bad_kept_law : (rows : Rows) (node height : ℕ) (input : List ℕ) → ((scenario rows input).status ≡ ends.KeptBad node height) ↔ IsKeptBad rows input node height
 bad_kept_law rows node height input = (
-  λ e. (kept_bad_law rows input node height).0 ((start_law rows input (ends.KeptBad node height) refl).0 e),
-  λ h. (start_law rows input (ends.KeptBad node height) refl).1 ((kept_bad_law rows input node height).1 h),
+  λ e.
+      let c = ended_by rows input (ends.KeptBad node height) e in
+      (c.0, record { count = c.1.count; genesis = c.1.genesis; lines = c.1.place; few = c.1.few; good = c.1.good; refused = c.1.refused }),
+  λ h. refused_run rows (cut input).lines (cut input).tail h.0 (node, BadAt height) h.1.count h.1.lines h.1.genesis h.1.few h.1.good h.1.refused,
 )
 
 other_kept_law : (rows : Rows) (node : ℕ) (theirs ours : List ℕ) (input : List ℕ) → ((scenario rows input).status ≡ ends.KeptOther node theirs ours) ↔ IsKeptOther rows input node theirs ours
 other_kept_law rows node theirs ours input = (
-  λ e. (kept_other_law rows input node theirs ours).0 ((start_law rows input (ends.KeptOther node theirs ours) refl).0 e),
-  λ h. (start_law rows input (ends.KeptOther node theirs ours) refl).1 ((kept_other_law rows input node theirs ours).1 h),
+  λ e.
+      let c = ended_by rows input (ends.KeptOther node theirs ours) e in
+      (c.0, record { count = c.1.count; genesis = c.1.genesis; lines = c.1.place; few = c.1.few; good = c.1.good; refused = c.1.refused }, c.2),
+  λ h.
+      refused_run rows (cut input).lines (cut input).tail h.0 (node, OtherGenesis theirs) h.1.count h.1.lines h.1.genesis h.1.few h.1.good h.1.refused
+      ∙ ap (ends.KeptOther node theirs) (sym h.2),
 )
 
 -- it never ends for its words
 no_usage : (rows : Rows) (input : List ℕ) → (scenario rows input).status ≡ ends.Usage → ⊥
-no_usage rows input e =
-    let r = start_refused rows (genesis_in (cut input).lines) ends.Usage ((start_law rows input ends.Usage refl).0 e) in
-    never_told r.genesis r.node r.unkept r.told
-  where
-    never_told : (g : Genesis) (node : ℕ) (unkept : Unkept) → unkept_status g node unkept ≡ ends.Usage → ⊥
-    never_told g node (BadAt height) e = cc
-    never_told g node (OtherGenesis theirs) e = cc
+no_usage rows input e = ended_by rows input ends.Usage e
 
 -- a status that is told of an input, where no fault ended the run
 told_status : (before now : Option (List ℕ)) (k : Option Rows) (t : Told) (s : Status) → is_fault s ≡ false → Says before now k t s → s ≡ t.status

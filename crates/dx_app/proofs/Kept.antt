@@ -1,5 +1,5 @@
 -- What is kept where a run ends: just what its executed lines put.
-use Rattle.std.proofs.Common.{◌≡◌, ◌≤◌, ◌⊎◌, inl, inr, ℕ, List, [], ◌∷◌, ◌++◌, length, refl, sym, ap, subst, ◌∙◌, append_assoc, append-nil, true, false, MatchBool, Option, Some, Ok}
+use Rattle.std.proofs.Common.{◌≡◌, ◌≤◌, inl, inr, ℕ, List, [], ◌∷◌, ◌++◌, length, refl, sym, ap, subst, ◌∙◌, append_assoc, append-nil, true, false, MatchBool, Option, Some, Ok, Err}
 use Rattle.std.specs.Io.KnownBytes.{Appends, Keeps}
 use Rattle.dx_types.specs.declared.status.Status.{Status}
 use Rattle.dx_types.specs.declared.status.Status.TheVariants as ends
@@ -14,14 +14,15 @@ use Rattle.dx_print.specs.Statuses.{last_line}
 use Rattle.dx_cluster.specs.declared.cluster.Cluster.{Cluster}
 use Rattle.dx_cluster.specs.declared.fault.StartFault.{StartFault}
 use Rattle.dx_cluster.specs.declared.fault.StartFault.TheVariants as starts
-use Rattle.dx_cluster.specs.World.{World, step, IsDone, KeepsRows, Breaks}
+use Rattle.dx_cluster.specs.World.{World, Steps, step, world_or, HasStepped, AreEither, Breaks}
 use Rattle.dx_app.specs.declared.lines.Cut.TheVariants.{Line}
 use Rattle.dx_app.specs.Lines.{newline, rest_of, CutsLine}
 use Rattle.dx_app.specs.Output.{AppendsFront}
 use Rattle.dx_app.specs.Transcript.{Told, line_limit, told_after, ended, lines_told, rest_told, scenario, lines_alone}
 use Rattle.dx_app.specs.Runs.{is_fault, EndsAs, Says, AppendsLast, Executes, Holds, GoesOn, line_alone, ExecutesLine, StopsAtLine, EndsAtLine, EndsUnserved}
 use Rattle.dx_app.proofs.Outputs.{appends_then, keeps_front, nothing_front, front_more, rest_is_input, read_is_input}
-use Rattle.dx_app.proofs.Runs.{lines_at_hand, line_at_hand, line_then, rest_line, nothing_told, line_is}
+use Rattle.dx_app.proofs.Nodes.{stepped_world}
+use Rattle.dx_app.proofs.Runs.{lines_at_hand, line_at_hand, line_then, rest_line, nothing_told, event_is}
 
 -- a front of what is told is written, whatever the status
 pub says_front : (before now : Option (List ℕ)) (k : Option Rows) (t : Told) (s : Status) → Says before now k t s → AppendsFront before now t.bytes
@@ -141,31 +142,39 @@ pub executes_none : (rows : Rows) (left before now : Option (List ℕ)) (k : Opt
 executes_none rows left before now k e a = (rest_of left, rest_is_input left, record { lines = []; others = rest_of left; joined = refl; done = refl; keeps = e; last = a.0; wrote = a.1 })
 
 module _ (w0 w1 : Option (List ℕ)) (k : Option Rows) (w : World) (nodes n : ℕ) (line : List ℕ) (e : Event) (c : length w.nodes ≡ nodes) (o : event_of nodes line ≡ Ok e) where
-  event_alone : line_alone w n line ≡ told_after (reply_line n (step w e).1) (ended ends.Done (step w e).0.rows)
-  event_alone = line_is w nodes n line (Ok e) (λ v. ended ends.Done v.rows) c o
+  event_alone : (r : World × Reply) → step w e ≡ Ok r → line_alone w n line ≡ told_after (reply_line n r.1) (ended ends.Done r.0.rows)
+  event_alone r is = event_is w nodes n line e (Ok r) (λ v. ended ends.Done v.rows) c o is
 
-  executes_line : k ≡ Some (step w e).0.rows → AppendsFront w0 w1 (reply_line n (step w e).1) → ExecutesLine w n line w0 w1 k
-  executes_line r f = record {
-    done = ap (λ (t : Told). t.status) event_alone;
-    keeps = r ∙ ap (λ (t : Told). Some t.rows) (sym event_alone);
-    wrote = subst (λ (t : Told). AppendsFront w0 w1 t.bytes) (sym event_alone) (front_more w0 w1 (reply_line n (step w e).1) [] f);
-  }
+  executes_line : (r : World × Reply) → step w e ≡ Ok r → k ≡ Some r.0.rows → AppendsFront w0 w1 (reply_line n r.1) → ExecutesLine w n line w0 w1 k
+  executes_line r is keeps f =
+      let alone = event_alone r is in
+      record {
+        done = ap (λ (t : Told). t.status) alone;
+        keeps = keeps ∙ ap (λ (t : Told). Some t.rows) (sym alone);
+        wrote = subst (λ (t : Told). AppendsFront w0 w1 t.bytes) (sym alone) (front_more w0 w1 (reply_line n r.1) [] f);
+      }
 
   -- the reply is not written whole
-  pub reply_stops : (d : Cluster) (r : Reply) (text : List ℕ) → IsDone (step w e) d r × KeepsRows k (step w e).0 → text ≡ reply_line n r → AppendsFront w0 w1 text → StopsAtLine w n line w0 w1 k
-  reply_stops d r text done t f = inr (executes_line done.1.told (subst (λ xs. AppendsFront w0 w1 xs) (t ∙ ap (reply_line n) done.0.replied) f))
+  pub reply_stops : (d : Cluster) (r : Reply) (text : List ℕ) → HasStepped (step w e) d r k → text ≡ reply_line n r → AppendsFront w0 w1 text → StopsAtLine w n line w0 w1 k
+  reply_stops d r text h t f =
+      let s = stepped_world (step w e) d r k h in
+      inr (executes_line s.behind s.is s.keeps.told (subst (λ xs. AppendsFront w0 w1 xs) (t ∙ ap (reply_line n) s.done.replied) f))
 
   -- there is no reply
-  pub unreplied_stops : (d : Cluster) (r : Reply) → IsDone (step w e) d r × KeepsRows k (step w e).0 → AppendsFront w0 w1 (reply_line n (step w e).1) → StopsAtLine w n line w0 w1 k
-  unreplied_stops d r done f = inr (executes_line done.1.told f)
+  pub unreplied_stops : (d : Cluster) (r : Reply) → HasStepped (step w e) d r k → ((text : List ℕ) → AppendsFront w0 w1 text) → StopsAtLine w n line w0 w1 k
+  unreplied_stops d r h f =
+      let s = stepped_world (step w e) d r k h in
+      inr (executes_line s.behind s.is s.keeps.told (f (reply_line n s.behind.1)))
 
-  served_or_not : (s : Status) → (k ≡ Some w.rows) ⊎ (k ≡ Some (step w e).0.rows) → Keeps w0 w1 → StopsAtLine w n line w0 w1 k
-  served_or_not s (inl r) q = inl (r, keeps_last w0 w1 q)
-  served_or_not s (inr r) q = inr (executes_line r (keeps_front w0 w1 _ q))
+  -- the rows are those before the event, or those behind it
+  either_stops : (s : Steps) → step w e ≡ s → AreEither k w.rows (world_or w s).rows → Keeps w0 w1 → StopsAtLine w n line w0 w1 k
+  either_stops s is (inl keeps) q = inl (keeps, keeps_last w0 w1 q)
+  either_stops (Ok r) is (inr keeps) q = inr (executes_line r is keeps (keeps_front w0 w1 _ q))
+  either_stops (Err unkept) is (inr keeps) q = inl (keeps, keeps_last w0 w1 q)
 
   -- the event is not answered
-  pub unserved_stops : (fault : StartFault) (s : Status) → Breaks (step w e) w k fault → EndsUnserved w0 w1 fault s → StopsAtLine w n line w0 w1 k
-  unserved_stops starts.KeepFault s b u = served_or_not s b.either u.1
-  unserved_stops starts.NoMemory s b u = served_or_not s b.either u.1
-  unserved_stops (starts.KeptBad node height) s b u = absurd (elim b.outside [ inl o ↦ cc | inr o ↦ cc ])
-  unserved_stops (starts.KeptOther node theirs ours) s b u = absurd (elim b.outside [ inl o ↦ cc | inr o ↦ cc ])
+  pub unserved_stops : (fault : StartFault) (s : Status) → Breaks w (step w e) k fault → EndsUnserved w0 w1 fault s → StopsAtLine w n line w0 w1 k
+  unserved_stops starts.KeepFault s b u = either_stops (step w e) refl b u.1
+  unserved_stops starts.NoMemory s b u = either_stops (step w e) refl b u.1
+  unserved_stops (starts.KeptBad node height) s b u = inl (b.1, unserved_last w0 w1 w.rows (starts.KeptBad node height) s u)
+  unserved_stops (starts.KeptOther node theirs ours) s b u = inl (b.2, unserved_last w0 w1 w.rows (starts.KeptOther node theirs ours) s u)

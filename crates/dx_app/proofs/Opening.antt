@@ -1,14 +1,17 @@
 -- The first line of an input, and the start of the nodes.
-use Rattle.std.proofs.Common.{◌≡◌, ◌≤◌, ◌⊎◌, inl, inr, ℕ, List, [], ◌∷◌, ◌++◌, length, refl, sym, ap, subst, ◌∙◌, append-nil, false, Option, Some, Result, Ok, Err}
+use Rattle.std.proofs.Common.{◌≡◌, ◌<◌, ◌≤◌, ◌+◌, ◌⊎◌, inl, inr, ℕ, zero, suc, List, [], ◌∷◌, ◌++◌, length, refl, sym, ap, subst, ◌∙◌, arith, append-nil, false, Option, Some, Result, Ok, Err}
 use Rattle.std.specs.List.{range_with_len}
+use Rattle.std.specs.FinMap.{empty}
 use Rattle.std.proofs.lemmas.Bool.{le-ltb, lt-ltb}
 use Rattle.std.specs.Io.KnownBytes.{Appends}
+use Rattle.dx_types.specs.declared.Block.{Block}
 use Rattle.dx_types.specs.declared.Genesis.{Genesis}
+use Rattle.dx_spec.specs.Step.{◌>>=◌}
 use Rattle.dx_types.specs.declared.status.Status.{Status}
 use Rattle.dx_types.specs.declared.status.Status.TheVariants as ends
 use Rattle.dx_io.specs.Rows.{Rows}
 use Rattle.dx_codec.specs.Genesis.{digest_of}
-use Rattle.dx_history.specs.Chains.{Unkept, BadAt, OtherGenesis}
+use Rattle.dx_history.specs.Chains.{Unkept, BadAt, OtherGenesis, kept}
 use Rattle.dx_scenario.specs.declared.fault.LineFault.{LineFault}
 use Rattle.dx_scenario.specs.declared.fault.LineFault.TheVariants as faults
 use Rattle.dx_scenario.specs.Parts.{Fails}
@@ -17,7 +20,8 @@ use Rattle.dx_print.specs.Replies.{reply_line}
 use Rattle.dx_cluster.specs.declared.cluster.Cluster.{Cluster}
 use Rattle.dx_cluster.specs.declared.fault.StartFault.{StartFault}
 use Rattle.dx_cluster.specs.declared.fault.StartFault.TheVariants as starts
-use Rattle.dx_cluster.specs.World.{World, opened, begun_all, Opens, IsBegun, OpenRefused}
+use Rattle.dx_node_spec.specs.Node.{Node}
+use Rattle.dx_cluster.specs.World.{World, node_of, nodes_of, opened, begun_all, Opens, IsBegun, OpenRefused}
 use Rattle.dx_app.specs.declared.lines.Cut.TheVariants.{Line, Broken, End}
 use Rattle.dx_app.specs.Lines.{newline, longest_line, has_newline, cut, AreBroken, rest_of, CutsLine}
 use Rattle.dx_app.specs.Output.{AppendsFront}
@@ -89,6 +93,42 @@ no_opening h0 h1 line l0 l1 w0 w1 rows s none k a =
       said = subst (λ t. Says w0 w1 (Some rows) t s) (sym (ap (scenario rows) nothing)) (a rows);
     }
 
+-- the first node that is not started is one of the genesis
+node_refused : (g : Genesis) (number : ℕ) (r : Result (List Block) Unkept) (u : ℕ × Unkept) → ◌≡◌ {A = Result Node (ℕ × Unkept)} (node_of g number r) (Err u) → number ≡ u.0
+node_refused g number (Ok blocks) u e = absurd (cc)
+node_refused g number (Err unkept) u e = cc
+
+module _ (g : Genesis) (rows : Rows) (k n : ℕ) (rest : (v : ℕ × Unkept) → nodes_of g rows (range_with_len (k + 1) n) ≡ Err v → v.0 < k + 1 + n) (u : ℕ × Unkept) where
+  others_within : (p : Node) (r : Result (List Node) (ℕ × Unkept)) → nodes_of g rows (range_with_len (k + 1) n) ≡ r → ◌≡◌ {A = Result (List Node) (ℕ × Unkept)} (r >>= λ ps. Ok (p ∷ ps)) (Err u) → u.0 < k + suc n
+  others_within p (Ok ps) is e = absurd (cc)
+  others_within p (Err own) is e =
+      let same : own ≡ u = cc in
+      let less : u.0 < k + 1 + n = rest u (is ∙ ap Err same) in
+      omega (arith, less)
+
+  first_within : (r : Result Node (ℕ × Unkept)) → node_of g k (kept g rows k) ≡ r
+      → ◌≡◌ {A = Result (List Node) (ℕ × Unkept)} (r >>= λ p. nodes_of g rows (range_with_len (k + 1) n) >>= λ ps. Ok (p ∷ ps)) (Err u) → u.0 < k + suc n
+  first_within (Ok p) is e = others_within p (nodes_of g rows (range_with_len (k + 1) n)) refl e
+  first_within (Err own) is e =
+      let same : own ≡ u = cc in
+      let here : k ≡ u.0 = node_refused g k (kept g rows k) u (is ∙ ap Err same) in
+      omega (arith, here)
+
+nodes_within : (g : Genesis) (rows : Rows) (k n : ℕ) (u : ℕ × Unkept) → nodes_of g rows (range_with_len k n) ≡ Err u → u.0 < k + n
+nodes_within g rows k zero u e = absurd (let no : ◌≡◌ {A = Result (List Node) (ℕ × Unkept)} (Ok []) (Err u) = e in cc)
+nodes_within g rows k (suc n) u e = first_within g rows k n (λ v is. nodes_within g rows (k + 1) n v is) u (node_of g k (kept g rows k)) refl e
+
+refused_within : (count : ℕ) (g : Genesis) (rows : Rows) (u : ℕ × Unkept) → opened count g rows ≡ Err u → u.0 ≤ count
+refused_within count g rows u e = go (nodes_of g rows (range_with_len 0 count)) refl e
+  where
+    go : (r : Result (List Node) (ℕ × Unkept)) → nodes_of g rows (range_with_len 0 count) ≡ r
+        → ◌≡◌ {A = Result World (ℕ × Unkept)} (r >>= λ ps. Ok (record { nodes = ps; slots = empty; rows = begun_all g rows (range_with_len 0 count) })) (Err u) → u.0 ≤ count
+    go (Ok ps) is e = absurd (cc)
+    go (Err own) is e =
+        let same : own ≡ u = cc in
+        let less : u.0 < 0 + count = nodes_within g rows 0 count u (is ∙ ap Err same) in
+        omega (arith, less)
+
 -- the world of nodes that are started
 pub opened_world : (step : Result World (ℕ × Unkept)) (c : Cluster) (k : Option Rows) → Opens step c k → (w : World) × (step ≡ Ok w) × Holds c k w
 opened_world (Ok w) c k o = (w, refl, (o.0, o.1))
@@ -115,7 +155,7 @@ module _ (rows : Rows) (first : ℕ × Genesis) (h1 : List ℕ) (l0 l1 w0 w1 : O
   at_text k t s e y = record { input = text; is = is_text; said = subst (λ x. Says w0 w1 k x s) (sym e) y }
 
   -- the nodes are not started
-  pub unopened_ends : (k : Option Rows) (fault : StartFault) (s : Status) → OpenRefused (opened first.0 first.1 rows) first.1 rows k fault → EndsUnserved w0 w1 fault s → IsRunOf (scenario rows) l0 w0 w1 k s
+  pub unopened_ends : (k : Option Rows) (fault : StartFault) (s : Status) → OpenRefused first.0 (opened first.0 first.1 rows) first.1 rows k fault → EndsUnserved w0 w1 fault s → IsRunOf (scenario rows) l0 w0 w1 k s
   unopened_ends k (starts.KeptBad node height) s r e =
       let begun : Rows = begun_all first.1 rows (range_with_len 0 node) in
       at_text k (ended (ends.KeptBad node height) begun) s (text_told (Err (node, BadAt height)) r.0) (says_kept w0 w1 k begun (ended (ends.KeptBad node height) begun) s r.1 (e begun))
@@ -126,14 +166,14 @@ module _ (rows : Rows) (first : ℕ × Genesis) (h1 : List ℕ) (l0 l1 w0 w1 : O
   unopened_ends k starts.KeepFault s r e = at_text k _ s refl (says_by_fault w0 w1 k (scenario rows text) s (ap is_fault e.0) (keeps_front w0 w1 _ e.1))
   unopened_ends k starts.NoMemory s r e = at_text k _ s refl (says_by_fault w0 w1 k (scenario rows text) s (ap is_fault e.0) (keeps_front w0 w1 _ e.1))
 
-  starting : (k : Option Rows) (count : ℕ) → IsBegun count first.1 rows k → AppendsLast w0 w1 → KeepsLines rows l0 w0 w1 k
-  starting k count b a = inl (record { input = text; is = is_text; first = first; genesis = genesis_is; count = count; keeps = b; silent = a })
+  starting : (k : Option Rows) (count : ℕ) → count ≤ first.0 → IsBegun count first.1 rows k → AppendsLast w0 w1 → KeepsLines rows l0 w0 w1 k
+  starting k count few b a = inl (record { input = text; is = is_text; first = first; genesis = genesis_is; count = count; few = few; keeps = b; silent = a })
 
-  pub unopened_keeps : (k : Option Rows) (fault : StartFault) (s : Status) → OpenRefused (opened first.0 first.1 rows) first.1 rows k fault → EndsUnserved w0 w1 fault s → KeepsLines rows l0 w0 w1 k
-  unopened_keeps k (starts.KeptBad node height) s r e = starting k node r.1 (unserved_last w0 w1 rows (starts.KeptBad node height) s e)
-  unopened_keeps k (starts.KeptOther node theirs ours) s r e = starting k node r.2 (unserved_last w0 w1 rows (starts.KeptOther node theirs ours) s e)
-  unopened_keeps k starts.KeepFault s r e = starting k r.0 r.1 (unserved_last w0 w1 rows starts.KeepFault s e)
-  unopened_keeps k starts.NoMemory s r e = starting k r.0 r.1 (unserved_last w0 w1 rows starts.NoMemory s e)
+  pub unopened_keeps : (k : Option Rows) (fault : StartFault) (s : Status) → OpenRefused first.0 (opened first.0 first.1 rows) first.1 rows k fault → EndsUnserved w0 w1 fault s → KeepsLines rows l0 w0 w1 k
+  unopened_keeps k (starts.KeptBad node height) s r e = starting k node (refused_within first.0 first.1 rows (node, BadAt height) r.0) r.1 (unserved_last w0 w1 rows (starts.KeptBad node height) s e)
+  unopened_keeps k (starts.KeptOther node theirs ours) s r e = starting k node (refused_within first.0 first.1 rows (node, OtherGenesis theirs) r.0) r.2 (unserved_last w0 w1 rows (starts.KeptOther node theirs ours) s e)
+  unopened_keeps k starts.KeepFault s r e = starting k r.0 r.1 r.2 (unserved_last w0 w1 rows starts.KeepFault s e)
+  unopened_keeps k starts.NoMemory s r e = starting k r.0 r.1 r.2 (unserved_last w0 w1 rows starts.NoMemory s e)
 
   module _ (w : World) (e : opened first.0 first.1 rows ≡ Ok w) where
     -- the reply to the first line is written in part, or there was no memory for it

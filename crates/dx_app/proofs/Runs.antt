@@ -19,11 +19,13 @@ use Rattle.dx_app.specs.Lines.{newline, longest_line, has_newline, cut, with_byt
 use Rattle.dx_app.specs.Output.{AppendsFront}
 use Rattle.dx_cluster.specs.declared.fault.StartFault.{StartFault}
 use Rattle.dx_cluster.specs.declared.fault.StartFault.TheVariants as starts
-use Rattle.dx_cluster.specs.World.{World, step, IsDone, KeepsRows}
+use Rattle.dx_cluster.specs.World.{World, Steps, step, HasStepped, Breaks}
 use Rattle.dx_io.specs.Rows.{Rows}
-use Rattle.dx_app.specs.Transcript.{Told, line_limit, told_after, ended, bad_line, or_bad, event_told, line_told, lines_told, rest_told}
+use Rattle.dx_history.specs.Chains.{BadAt, OtherGenesis}
+use Rattle.dx_app.specs.Transcript.{Told, line_limit, told_after, ended, bad_line, or_bad, digest_at, event_told, line_told, lines_told, rest_told}
 use Rattle.dx_app.specs.Runs.{is_fault, EndsAs, Says, IsRunOf, Holds, GoesOn, IsAnswered, EndsAtLine, EndsUnserved, EndsReading}
 use Rattle.dx_app.proofs.Newlines.{cut_line, rest_at_end}
+use Rattle.dx_app.proofs.Nodes.{IsStepped, stepped_world, digest_told}
 use Rattle.dx_app.proofs.Outputs.{appends_nothing, appends_then, keeps_front, nothing_front, front_more, consumes_then, rest_is_input, read_is_input}
 
 -- a fault ends a run behind a front of what is told
@@ -225,8 +227,8 @@ none_over h0 h1 l0 l1 written w r none at_end =
       said = subst (λ t. Says written written (Some w.rows) t ends.Done) (sym nothing) (appends_nothing written, refl, refl);
     }
 
-pub line_is : (w : World) (nodes n : ℕ) (line : List ℕ) (r : Result Event ℕ) (next : World → Told) → length w.nodes ≡ nodes → event_of nodes line ≡ r → line_told w n line next ≡ or_bad n w.rows r (λ e. event_told n (step w e) next)
-line_is w nodes n line r next c e = ap (λ k. or_bad n w.rows (event_of k line) (λ e. event_told n (step w e) next)) c ∙ ap (λ q. or_bad n w.rows q (λ e. event_told n (step w e) next)) e
+pub line_is : (w : World) (nodes n : ℕ) (line : List ℕ) (r : Result Event ℕ) (next : World → Told) → length w.nodes ≡ nodes → event_of nodes line ≡ r → line_told w n line next ≡ or_bad n w.rows r (λ e. event_told w n (step w e) next)
+line_is w nodes n line r next c e = ap (λ k. or_bad n w.rows (event_of k line) (λ e. event_told w n (step w e) next)) c ∙ ap (λ q. or_bad n w.rows q (λ e. event_told w n (step w e) next)) e
 
 -- a line that is no event
 pub fault_ends : (w0 w1 : Option (List ℕ)) (k : Option Rows) (w : World) (nodes n : ℕ) (line : List ℕ) (fault : LineFault) (s : Status) (next : World → Told) → length w.nodes ≡ nodes → k ≡ Some w.rows
@@ -235,33 +237,44 @@ fault_ends w0 w1 k w nodes n line (faults.Bad field) s next c kept f e =
     subst (λ t. Says w0 w1 k t s) (sym (line_is w nodes n line (Err field) next c f)) (says_kept w0 w1 k w.rows (bad_line n field w.rows) s kept (e w.rows))
 fault_ends w0 w1 k w nodes n line faults.NoMemory s next c kept f e = says_at_fault w0 w1 k _ s (inr e.0) (keeps_front w0 w1 _ e.1)
 
--- an event that is not answered, where no row is the cause
-pub unserved_ends : (w0 w1 : Option (List ℕ)) (k : Option Rows) (fault : StartFault) (t : Told) (s : Status) → (fault ≡ starts.KeepFault) ⊎ (fault ≡ starts.NoMemory) → EndsUnserved w0 w1 fault s → Says w0 w1 k t s
-unserved_ends w0 w1 k starts.KeepFault t s o e = says_by_fault w0 w1 k t s (ap is_fault e.0) (keeps_front w0 w1 t.bytes e.1)
-unserved_ends w0 w1 k starts.NoMemory t s o e = says_by_fault w0 w1 k t s (ap is_fault e.0) (keeps_front w0 w1 t.bytes e.1)
-unserved_ends w0 w1 k (starts.KeptBad node height) t s (inl o) e = absurd (cc)
-unserved_ends w0 w1 k (starts.KeptBad node height) t s (inr o) e = absurd (cc)
-unserved_ends w0 w1 k (starts.KeptOther node theirs ours) t s (inl o) e = absurd (cc)
-unserved_ends w0 w1 k (starts.KeptOther node theirs ours) t s (inr o) e = absurd (cc)
+-- a line that is an event, and what it comes to
+pub event_is : (w : World) (nodes n : ℕ) (line : List ℕ) (e : Event) (s : Steps) (next : World → Told) → length w.nodes ≡ nodes → event_of nodes line ≡ Ok e → step w e ≡ s → line_told w n line next ≡ event_told w n s next
+event_is w nodes n line e s next c o is = line_is w nodes n line (Ok e) next c o ∙ ap (λ x. event_told w n x next) is
 
-pub line_event : (w : World) (nodes n : ℕ) (line text : List ℕ) (e : Event) (c : Cluster) (r : Reply) (next : World → Told) → length w.nodes ≡ nodes → event_of nodes line ≡ Ok e → IsDone (step w e) c r → text ≡ reply_line n r
-    → line_told w n line next ≡ told_after text (next (step w e).0)
-line_event w nodes n line text e c r next k o d t =
-    line_is w nodes n line (Ok e) next k o ∙ ap (λ (x : Reply). told_after (reply_line n x) (next (step w e).0)) (sym d.replied) ∙ ap (λ xs. told_after xs (next (step w e).0)) (sym t)
+-- an event that is not answered
+pub unserved_ends : (w0 w1 : Option (List ℕ)) (k : Option Rows) (w : World) (nodes n : ℕ) (line : List ℕ) (e : Event) (fault : StartFault) (s : Status) (next : World → Told) → length w.nodes ≡ nodes → event_of nodes line ≡ Ok e
+    → Breaks w (step w e) k fault → EndsUnserved w0 w1 fault s → Says w0 w1 k (line_told w n line next) s
+unserved_ends w0 w1 k w nodes n line e starts.KeepFault s next c o b u = says_by_fault w0 w1 k _ s (ap is_fault u.0) (keeps_front w0 w1 _ u.1)
+unserved_ends w0 w1 k w nodes n line e starts.NoMemory s next c o b u = says_by_fault w0 w1 k _ s (ap is_fault u.0) (keeps_front w0 w1 _ u.1)
+unserved_ends w0 w1 k w nodes n line e (starts.KeptBad node height) s next c o b u =
+    subst (λ t. Says w0 w1 k t s) (sym (event_is w nodes n line e (Err (node, BadAt height)) next c o b.0))
+    (says_kept w0 w1 k w.rows (ended (ends.KeptBad node height) w.rows) s b.1 (u w.rows))
+unserved_ends w0 w1 k w nodes n line e (starts.KeptOther node theirs ours) s next c o b u =
+    let digest : ours ≡ digest_at w node = digest_told w e (node, OtherGenesis theirs) ours b.0 b.1 in
+    subst (λ t. Says w0 w1 k t s) (ap (λ d. ended (ends.KeptOther node theirs d) w.rows) digest ∙ sym (event_is w nodes n line e (Err (node, OtherGenesis theirs)) next c o b.0))
+    (says_kept w0 w1 k w.rows (ended (ends.KeptOther node theirs ours) w.rows) s b.2 (u w.rows))
+
+pub line_event : (w : World) (nodes n : ℕ) (line text : List ℕ) (e : Event) (c : Cluster) (r : Reply) (rows : Option Rows) (next : World → Told) → length w.nodes ≡ nodes → event_of nodes line ≡ Ok e → (d : IsStepped (step w e) c r rows) → text ≡ reply_line n r
+    → line_told w n line next ≡ told_after text (next d.behind.0)
+line_event w nodes n line text e c r rows next k o d t =
+    event_is w nodes n line e (Ok d.behind) next k o d.is ∙ ap (λ (x : Reply). told_after (reply_line n x) (next d.behind.0)) (sym d.done.replied) ∙ ap (λ xs. told_after xs (next d.behind.0)) (sym t)
 
 -- a reply that is written in part
-pub reply_ends : (w0 w1 : Option (List ℕ)) (k : Option Rows) (w : World) (nodes n : ℕ) (line text : List ℕ) (e : Event) (c : Cluster) (r : Reply) (s : Status) (next : World → Told) → length w.nodes ≡ nodes → event_of nodes line ≡ Ok e → IsDone (step w e) c r → text ≡ reply_line n r
-    → AppendsFront w0 w1 text → (s ≡ ends.WriteFault) ⊎ (s ≡ ends.NoMemory) → Says w0 w1 k (line_told w n line next) s
-reply_ends w0 w1 k w nodes n line text e c r s next m o d t f v =
-    subst (λ x. Says w0 w1 k x s) (sym (line_event w nodes n line text e c r next m o d t)) (says_at_fault w0 w1 k _ s v (front_more w0 w1 text (next (step w e).0).bytes f))
+pub reply_ends : (w0 w1 : Option (List ℕ)) (k : Option Rows) (w : World) (nodes n : ℕ) (line text : List ℕ) (e : Event) (c : Cluster) (r : Reply) (s : Status) (next : World → Told) → length w.nodes ≡ nodes → event_of nodes line ≡ Ok e
+    → HasStepped (step w e) c r k → text ≡ reply_line n r → AppendsFront w0 w1 text → (s ≡ ends.WriteFault) ⊎ (s ≡ ends.NoMemory) → Says w0 w1 k (line_told w n line next) s
+reply_ends w0 w1 k w nodes n line text e c r s next m o h t f v =
+    let d = stepped_world (step w e) c r k h in
+    subst (λ x. Says w0 w1 k x s) (sym (line_event w nodes n line text e c r k next m o d t)) (says_at_fault w0 w1 k _ s v (front_more w0 w1 text (next d.behind.0).bytes f))
 
 -- a reply that is written
 pub is_answered : (w0 w1 : Option (List ℕ)) (k : Option Rows) (w : World) (nodes n : ℕ) (line text : List ℕ) (e : Event) (c : Cluster) (r : Reply) → length w.nodes ≡ nodes → event_of nodes line ≡ Ok e
-    → IsDone (step w e) c r × KeepsRows k (step w e).0 → text ≡ reply_line n r → Appends w0 w1 text → IsAnswered w n line c k w0 w1
-is_answered w0 w1 k w nodes n line text e c r m o d t a = record {
-  world = (step w e).0;
-  holds = (d.0.stands, d.1);
-  out = text;
-  wrote = a;
-  told = λ next. line_event w nodes n line text e c r next m o d.0 t;
-}
+    → HasStepped (step w e) c r k → text ≡ reply_line n r → Appends w0 w1 text → IsAnswered w n line c k w0 w1
+is_answered w0 w1 k w nodes n line text e c r m o h t a =
+    let d = stepped_world (step w e) c r k h in
+    record {
+      world = d.behind.0;
+      holds = (d.done.stands, d.keeps);
+      out = text;
+      wrote = a;
+      told = λ next. line_event w nodes n line text e c r k next m o d t;
+    }

@@ -1,5 +1,5 @@
 -- When each status comes: what is wrong in the lines of an input, and how a run ends for it.
-use Rattle.std.specs.Prelude.{◌≡◌, ℕ, ◌-◌, ◌<◌, ◌≤◌, ◌==◌, ◌⊎◌, nat_lt, if◌then◌else◌, IsTrue, List, [], ◌∷◌, ◌++◌, map, length, take, slice_get, All, count_by, Option, Some, None, IsNone, option_map, Result, Ok, Err, IsOk}
+use Rattle.std.specs.Prelude.{◌≡◌, ℕ, ◌-◌, ◌<◌, ◌≤◌, ◌==◌, ◌⊎◌, nat_lt, if◌then◌else◌, IsTrue, List, [], ◌∷◌, ◌++◌, map, length, take, drop, slice_get, All, count_by, Option, Some, None, IsNone, option_map, Result, Ok, Err, IsOk}
 use Rattle.dx_types.specs.declared.Genesis.{Genesis}
 use Rattle.dx_types.specs.declared.status.Status.{Status}
 use Rattle.dx_types.specs.declared.status.Status.TheVariants.{Done, NoMemory}
@@ -10,9 +10,12 @@ use Rattle.dx_words.specs.declared.words.Job.{Job}
 use Rattle.dx_words.specs.declared.words.Job.TheVariants.{Replay, SelfRun, Generate}
 use Rattle.dx_words.specs.declared.words.Words.{Words}
 use Rattle.dx_words.specs.Asked.{asked}
+use Rattle.dx_spec.specs.Step.{◌>>=◌}
+use Rattle.dx_scenario.specs.declared.event.Event.{Event}
 use Rattle.dx_scenario.specs.Genesis.{genesis_of}
 use Rattle.dx_scenario.specs.Events.{event_of}
-use Rattle.dx_cluster.specs.World.{opened}
+use Rattle.dx_cluster.specs.World.{World, opened}
+use Rattle.dx_cluster.specs.Laws.{after}
 use Rattle.dx_app.specs.Lines.{newline, longest_line, cut}
 use Rattle.dx_app.specs.Transcript.{Told, line_limit, genesis_in}
 use Rattle.dx_app.specs.Runs.{is_fault, IsInput, EndsAs}
@@ -49,17 +52,37 @@ line_faults (line ∷ lines) tail = fault_of line (genesis_of line) ∷ event_fa
 abbrev pub faults : List ℕ → List (Option ℕ)
 faults input = line_faults (cut input).lines (cut input).tail
 
--- where the first line is a genesis, each node of it is started: its rows are a chain of that genesis
-abbrev pub IsStarted : Rows → List ℕ → Type 0
-IsStarted rows input = (first : ℕ × Genesis) → genesis_in (cut input).lines ≡ Ok first → IsOk (opened first.0 first.1 rows)
+-- an event goes before others; a line that is none says nothing
+abbrev pub with_event : Result Event ℕ → List Event → List Event
+with_event (Ok event) events = event ∷ events
+with_event (Err place) events = events
 
--- the first line is this genesis, and this node is the first that is not started, for this cause
+-- the events that lines say, in a scenario of so many nodes
+abbrev pub events_in : ℕ → List (List ℕ) → List Event
+events_in nodes [] = []
+events_in nodes (line ∷ lines) = with_event (event_of nodes line) (events_in nodes lines)
+
+-- the world behind a genesis line and the lines of events behind it, over kept rows; or the first node that is to start
+-- from rows that are no chain of the genesis, and why
+abbrev pub world_behind : Rows → ℕ × Genesis → List (List ℕ) → Result World (ℕ × Unkept)
+world_behind rows first lines = opened first.0 first.1 rows >>= λ w. after w (events_in first.0 lines)
+
+-- where the first of some lines is a genesis, its nodes are all started, and so is each node that the lines behind it start again
+abbrev pub AreStarted : Rows → List (List ℕ) → Type 0
+AreStarted rows lines = (first : ℕ × Genesis) → genesis_in lines ≡ Ok first → IsOk (world_behind rows first (drop 1 lines))
+
+-- the first line is this genesis, and in front of any bad line this node is the first that is not started, for this cause
 pub record IsUnkept (rows : Rows) (input : List ℕ) (g : Genesis) (node : ℕ) (unkept : Unkept) : Type 0 where
   pub count : ℕ
   pub genesis : genesis_in (cut input).lines ≡ Ok (count, g)
-  pub refused : opened count g rows ≡ Err (node, unkept)
+  -- so many lines are good, and no more than may be read
+  pub lines : ℕ
+  pub few : lines ≤ line_limit
+  pub good : All IsNone (take lines (faults input))
+  -- and the run does not go on behind the last of them
+  pub refused : world_behind rows (count, g) (drop 1 (take lines (cut input).lines)) ≡ Err (node, unkept)
 
--- the first line is a genesis, and of the first node whose rows are no chain of it the row at this height is the first bad one
+-- of the first node that is not started, at the first line or at a later one, the row at this height is the first bad one
 abbrev pub IsKeptBad : Rows → List ℕ → ℕ → ℕ → Type 0
 IsKeptBad rows input node height = (g : Genesis) × IsUnkept rows input g node (BadAt height)
 
@@ -67,19 +90,19 @@ IsKeptBad rows input node height = (g : Genesis) × IsUnkept rows input g node (
 abbrev pub IsKeptOther : Rows → List ℕ → ℕ → List ℕ → List ℕ → Type 0
 IsKeptOther rows input node theirs ours = (g : Genesis) × IsUnkept rows input g node (OtherGenesis theirs) × (ours ≡ digest_of g)
 
--- a good genesis line and then events, each with its newline, no more lines than may be read, and each node is started
+-- a good genesis line and then events, each with its newline, no more lines than may be read, and each node is started, at first and again
 pub record IsGoodScenario (rows : Rows) (input : List ℕ) : Type 0 where
   pub good : All IsNone (faults input)
   pub few : length (faults input) ≤ line_limit
-  pub started : IsStarted rows input
+  pub started : AreStarted rows (cut input).lines
 
--- a line of this number is bad at this place, all lines before it are good, and each node is started where one of them is the genesis
+-- a line of this number is bad at this place, all lines before it are good, and each node that they start is started
 pub record IsFirstBad (rows : Rows) (input : List ℕ) (line field : ℕ) : Type 0 where
   pub first : 1 ≤ line
   pub last : line ≤ line_limit
   pub bad : slice_get (faults input) (line - 1) ≡ Some (Some field)
   pub before : All IsNone (take (line - 1) (faults input))
-  pub started : IsStarted rows input
+  pub started : AreStarted rows (take (line - 1) (cut input).lines)
 
 -- a byte follows so many newlines
 pub record FollowsNewlines (newlines : ℕ) (input : List ℕ) : Type 0 where
@@ -89,11 +112,11 @@ pub record FollowsNewlines (newlines : ℕ) (input : List ℕ) : Type 0 where
   pub count : count_by (λ b. b == newline) front ≡ newlines
   pub more : 0 < length rest
 
--- a byte follows the newline of the last line that may be read, all lines before it are good, and each node is started
+-- a byte follows the newline of the last line that may be read, all lines before it are good, and each node that they start is started
 pub record IsTooLong (rows : Rows) (input : List ℕ) : Type 0 where
   pub follows : FollowsNewlines line_limit input
   pub before : All IsNone (take line_limit (faults input))
-  pub started : IsStarted rows input
+  pub started : AreStarted rows (take line_limit (cut input).lines)
 
 -- the job that words ask for, if they are taken
 abbrev pub job_asked : Option Words → Option Job

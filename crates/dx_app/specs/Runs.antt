@@ -1,5 +1,5 @@
 -- What a run has done so far, and how it ended.
-use Rattle.std.specs.Prelude.{◌≡◌, ◌⊎◌, ℕ, Bool, true, false, List, [], ◌++◌, Option, Some, None, Ok, ⊤, MatchBool}
+use Rattle.std.specs.Prelude.{◌≡◌, ◌≤◌, ◌⊎◌, ℕ, Bool, true, false, List, [], ◌++◌, Option, Some, None, Ok, ⊤, MatchBool}
 use Rattle.std.specs.List.{range_with_len}
 use Rattle.std.specs.Io.KnownBytes.{Appends, Keeps, Consumes}
 use Rattle.dx_types.specs.declared.Genesis.{Genesis}
@@ -83,8 +83,9 @@ pub record IsStarting (rows : Rows) (left written_before written : Option (List 
   pub is : IsInput left input
   pub first : ℕ × Genesis
   pub genesis : genesis_in (cut input).lines ≡ Ok first
-  -- of the rows at entry the digest of the genesis is put for so many nodes at most, those that had none
+  -- of the rows at entry the digest of the genesis is put for so many of its nodes at most, those that had none
   pub count : ℕ
+  pub few : count ≤ first.0
   pub keeps : rows_now ≡ Some (begun_all first.1 rows (range_with_len 0 count))
   -- no reply is written
   pub silent : AppendsLast written_before written

@@ -1,5 +1,6 @@
 -- What the program writes and keeps for its words and its input, and how it ends.
-use Rattle.std.specs.Prelude.{ℕ, suc, nat_lt, if◌then◌else◌, List, [], ◌∷◌, ◌++◌, length, Option, Some, None, Result, Ok, Err}
+use Rattle.std.specs.Prelude.{ℕ, suc, nat_lt, if◌then◌else◌, List, [], ◌∷◌, ◌++◌, length, slice_get, Option, Some, None, Result, Ok, Err}
+use Rattle.std.specs.Option.{option_map_or}
 use Rattle.std.specs.FinMap as map
 use Rattle.std.specs.List.{concat, range_with_len}
 use Rattle.sha2.specs.Sha256.{sha256}
@@ -22,7 +23,7 @@ use Rattle.dx_print.specs.declared.replies.Reply.{Reply}
 use Rattle.dx_print.specs.Replies.{reply_line}
 use Rattle.dx_print.specs.Statuses.{last_line}
 use Rattle.dx_app.specs.Lines.{longest_line, cut}
-use Rattle.dx_cluster.specs.World.{World, begun_all, opened, heights, step}
+use Rattle.dx_cluster.specs.World.{World, begun_all, opened, heights, Steps, step}
 
 -- what is written, the status, and the rows that are kept then
 pub record Told : Type 0 where
@@ -56,13 +57,24 @@ abbrev pub or_bad : {A : Type 0} → ℕ → Rows → Result A ℕ → (A → To
 or_bad n rows (Err field) next = bad_line n field rows
 or_bad n rows (Ok x) next = next x
 
--- an event is executed and its reply is written, and then what follows it
-abbrev pub event_told : ℕ → World × Reply → (World → Told) → Told
-event_told n done next = told_after (reply_line n done.1) (next done.0)
+-- how a run ends where the rows of a node are no chain of a genesis with a digest
+abbrev pub unkept_status : List ℕ → ℕ → Unkept → Status
+unkept_status digest node (BadAt height) = KeptBad node height
+unkept_status digest node (OtherGenesis theirs) = KeptOther node theirs digest
+
+-- the digest of the genesis of a node, if there is such a node
+abbrev pub digest_at : World → ℕ → List ℕ
+digest_at w node = option_map_or (λ p. digest_of p.genesis) (slice_get w.nodes node) []
+
+-- an event is executed and its reply is written, and then what follows it; or the first row that is none of a node's
+-- chain ends the run
+abbrev pub event_told : World → ℕ → Steps → (World → Told) → Told
+event_told w n (Ok done) next = told_after (reply_line n done.1) (next done.0)
+event_told w n (Err unkept) next = ended (unkept_status (digest_at w unkept.0) unkept.0 unkept.1) w.rows
 
 -- a line is read in a scenario of so many nodes, and then what follows it
 abbrev pub line_told : World → ℕ → List ℕ → (World → Told) → Told
-line_told w n line next = or_bad n w.rows (event_of (length w.nodes) line) (λ e. event_told n (step w e) next)
+line_told w n line next = or_bad n w.rows (event_of (length w.nodes) line) (λ e. event_told w n (step w e) next)
 
 -- the lines from the n-th on, and the bytes behind the last newline
 unfoldable pub lines_told : World → ℕ → List (List ℕ) → List ℕ → Told
@@ -80,14 +92,9 @@ rest_told w n rest = lines_told w n (cut rest).lines (cut rest).tail
 abbrev pub genesis_reply : World → Reply
 genesis_reply w = record { word = words.Genesis; answer = heights w }
 
--- how a run ends where the rows of a node are no chain of the genesis
-abbrev pub unkept_status : Genesis → ℕ → Unkept → Status
-unkept_status g node (BadAt height) = KeptBad node height
-unkept_status g node (OtherGenesis theirs) = KeptOther node theirs (digest_of g)
-
 -- the nodes are started, and then what follows the first line; or the first node whose rows are no chain ends the run
 abbrev pub started_told : Genesis → Rows → Result World (ℕ × Unkept) → (World → Told) → Told
-started_told g rows (Err unkept) next = ended (unkept_status g unkept.0 unkept.1) (begun_all g rows (range_with_len 0 unkept.0))
+started_told g rows (Err unkept) next = ended (unkept_status (digest_of g) unkept.0 unkept.1) (begun_all g rows (range_with_len 0 unkept.0))
 started_told g rows (Ok w) next = told_after (reply_line 1 (genesis_reply w)) (next w)
 
 -- the nodes of a genesis start from the kept rows

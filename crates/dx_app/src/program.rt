@@ -132,8 +132,8 @@ pub(crate) fn answer_all<S: Source, W: Sink, K: Keeper>(
 /// |---|---|
 /// | `Done` | all lines, at most 1,000,000, were good and are answered, and the source is at its end |
 /// | `BadLine` | a line was bad, or there was none: the first bad line, from 1, and its wrong element, from 0 |
-/// | `KeptBad` | the rows of a node were no chain: the first such node, and the height of its first bad row |
-/// | `KeptOther` | the rows of a node were those of another genesis: the first such node, and both digests |
+/// | `KeptBad` | a node was to start, at first or again, from rows that are no chain: it, and the height of its first bad row |
+/// | `KeptOther` | a node was to start, at first or again, from rows of another genesis: it, and both digests |
 /// | `Long` | a byte followed the 1,000,000th newline, and all lines before it were good |
 /// | `ReadFault` | a read failed; only where the source's count of faults rose |
 /// | `WriteFault` | a write failed; only where the sink's count of faults rose |

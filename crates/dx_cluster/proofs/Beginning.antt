@@ -1,5 +1,5 @@
 -- How nodes start one after another from the rows of a keeper.
-use Rattle.std.proofs.Common.{◌≡◌, ◌<◌, ◌≤◌, ◌+◌, ℕ, suc, List, [], ◌∷◌, ◌++◌, length, IfErr, arith, refl, sym, ap, subst, ◌∙◌, inl, inr, Option, Some, Result, Ok, Err}
+use Rattle.std.proofs.Common.{◌≡◌, ◌<◌, ◌+◌, ℕ, suc, List, [], ◌∷◌, ◌++◌, length, IfErr, arith, refl, sym, ap, subst, ◌∙◌, inl, inr, Option, Some, Result, Ok, Err}
 use Rattle.std.specs.Prelude.{All}
 use Rattle.std.specs.List.{AllZip, range_with_len}
 use Rattle.std.specs.FinMap.{empty}
@@ -7,7 +7,6 @@ use Rattle.std.proofs.lemmas.List.Elements.{All-nil}
 use Rattle.dx_types.specs.declared.Block.{Block}
 use Rattle.dx_types.specs.declared.Genesis.{Genesis}
 use Rattle.dx_spec.specs.Step.{◌>>=◌}
-use Rattle.dx_io.specs.Causes.{Rose}
 use Rattle.dx_io.specs.Rows.{Rows}
 use Rattle.dx_codec.specs.Genesis.{digest_of}
 use Rattle.dx_history.specs.Chains.{Unkept, BadAt, OtherGenesis, kept, begun}
@@ -19,17 +18,14 @@ use Rattle.dx_cluster.specs.declared.cluster.Cluster.{Cluster}
 use Rattle.dx_cluster.specs.declared.fault.StartFault.{StartFault}
 use Rattle.dx_cluster.specs.declared.fault.StartFault.TheVariants as starts
 use Rattle.dx_cluster.specs.Acts.{started}
-use Rattle.dx_cluster.specs.World.{World, node_of, nodes_of, begun_all, opened, IsIdle, Stands, StandsForSome, KeepsRows, AreEither, Opens, IsBegun, OpenRefused}
+use Rattle.dx_cluster.specs.World.{World, node_of, nodes_of, begun_all, opened, IsIdle, Stands, StandsForSome, KeepsRows, AreEither, Opens, IsBegunWithin, OpenRefused}
+use Rattle.dx_cluster.specs.Counts.{StartLeaves}
 use Rattle.dx_cluster.specs.Starts.{HasStarted, StartRefused}
 use Rattle.dx_cluster.proofs.Everywhere.{all_more}
 use Rattle.dx_cluster.proofs.Chains.{new_root, range_more, begun_more, kept_behind, begins_are}
 use Rattle.dx_cluster.proofs.Idling.{started_idle}
 use Rattle.dx_cluster.proofs.Opening.{nodes_append, opened_fails, opened_keeps}
 use Rattle.dx_cluster.proofs.Worlds.{both_more}
-
--- a count of faults that rises later has risen
-pub rose_before : (a b c : ℕ) → a ≤ b → Rose b c → Rose a c
-rose_before a b c h r = first_of (omega (arith, h, r), grind arith)
 
 -- there are nodes that they stand for, with nothing to place again
 abbrev pub StandForSome : List Held → Type 0
@@ -98,7 +94,7 @@ opens c count g rows i items now s same nodes slots =
     let is : opened count g rows ≡ Ok w = ap (λ (r : Result (List Node) (ℕ × Unkept)). r >>= λ ps. Ok (record { nodes = ps; slots = empty; rows = begun_all g rows numbers })) made in
     let stands : Stands c w = record { nodes = subst (λ (xs : List Held). AllZip StandsFor xs s.nodes) (sym nodes) s.stand; slots = slots; idle = s.idle } in
     let keeps = opened_keeps count g rows w is in
-    let told : KeepsRows now w = record { told = s.told ∙ ap (λ (n : ℕ). Some (begun_all g rows (range_with_len 0 n))) same; numbered = keeps.numbered; chains = keeps.chains } in
+    let told : KeepsRows now w = record { told = s.told ∙ ap (λ (n : ℕ). Some (begun_all g rows (range_with_len 0 n))) same; numbered = keeps.numbered; begun = keeps.begun } in
     subst (λ (r : Result World (ℕ × Unkept)). Opens r c now) (sym is) (stands, told)
 
 pub opens_some : (c : Cluster) (items : List Held) → StandForSome items → c.nodes.items ≡ items → StandsForSome c
@@ -108,14 +104,14 @@ opens_some c items some nodes = (
 )
 
 -- the rows are those behind the starts so far, or behind the next one
-begun_either : (g : Genesis) (rows : Rows) (i : ℕ) (after : Option Rows) → AreEither after (begun_all g rows (range_with_len 0 i)) (begun (begun_all g rows (range_with_len 0 i)) (new_node i g).number (new_node i g).genesis)
-    → (n : ℕ) × IsBegun n g rows after
-begun_either g rows i after (inl e) = (i, e)
-begun_either g rows i after (inr e) = (i + 1, e ∙ ap Some (next_begun g rows i))
+begun_either : (count i : ℕ) (g : Genesis) (rows : Rows) (after : Option Rows) → i < count
+    → AreEither after (begun_all g rows (range_with_len 0 i)) (begun (begun_all g rows (range_with_len 0 i)) (new_node i g).number (new_node i g).genesis) → IsBegunWithin count g rows after
+begun_either count i g rows after h (inl e) = (i, omega (arith, h), e)
+begun_either count i g rows after h (inr e) = (i + 1, omega (arith, h), e ∙ ap Some (next_begun g rows i))
 
 -- the next node does not start
 fails_by : (count i : ℕ) (g : Genesis) (rows : Rows) (nodes : List Node) (after : Option Rows) (fault : StartFault) → i < count → nodes_of g rows (range_with_len 0 i) ≡ Ok nodes
-    → StartRefused (begun_all g rows (range_with_len 0 i)) (new_node i g) after fault → OpenRefused (opened count g rows) g rows after fault
+    → StartRefused (begun_all g rows (range_with_len 0 i)) (new_node i g) after fault → OpenRefused count (opened count g rows) g rows after fault
 fails_by count i g rows nodes after (starts.KeptBad node height) h made r =
     let same : node ≡ i = r.0 ∙ (new_root i g).0 in (
       opened_fails count i g rows nodes (BadAt height) h made (next_kept g rows i (Err (BadAt height)) r.1) ∙ ap (λ (n : ℕ). Err (n, BadAt height)) (sym same),
@@ -127,19 +123,19 @@ fails_by count i g rows nodes after (starts.KeptOther node theirs ours) h made r
       r.2 ∙ ap digest_of (new_root i g).1,
       r.3 ∙ ap (λ (n : ℕ). Some (begun_all g rows (range_with_len 0 n))) (sym same),
     )
-fails_by count i g rows nodes after starts.KeepFault h made r = begun_either g rows i after r
-fails_by count i g rows nodes after starts.NoMemory h made r = begun_either g rows i after r
+fails_by count i g rows nodes after starts.KeepFault h made r = begun_either count i g rows after h r
+fails_by count i g rows nodes after starts.NoMemory h made r = begun_either count i g rows after h r
 
 pub open_fails : (count i : ℕ) (g : Genesis) (rows : Rows) (items : List Held) (before after : Option Rows) (fault : StartFault) → i < count → HaveStarted g rows i items before
-    → ((now : Rows) → before ≡ Some now → StartRefused now (new_node i g) after fault) → OpenRefused (opened count g rows) g rows after fault
+    → ((now : Rows) → before ≡ Some now → StartRefused now (new_node i g) after fault) → OpenRefused count (opened count g rows) g rows after fault
 open_fails count i g rows items before after fault h s r = fails_by count i g rows s.nodes after fault h s.made (r (begun_all g rows (range_with_len 0 i)) s.told)
 
 -- a node has started, and there is no memory for one more
-pub open_ends : (count i : ℕ) (g : Genesis) (rows : Rows) (items : List Held) (before after : Option Rows) (fault : StartFault) → HaveStarted g rows i items before → BeginsRows before after (new_node i g)
-    → fault ≡ starts.NoMemory → OpenRefused (opened count g rows) g rows after fault
-open_ends count i g rows items before after fault s b e =
+pub open_ends : (count i : ℕ) (g : Genesis) (rows : Rows) (items : List Held) (before after : Option Rows) (fault : StartFault) → i < count → HaveStarted g rows i items before → BeginsRows before after (new_node i g)
+    → fault ≡ starts.NoMemory → OpenRefused count (opened count g rows) g rows after fault
+open_ends count i g rows items before after fault h s b e =
     let now = begun_all g rows (range_with_len 0 i) in
-    subst (OpenRefused (opened count g rows) g rows after) (sym e) (i + 1, begins_are before after now (new_node i g) s.told b ∙ ap Some (next_begun g rows i))
+    subst (OpenRefused count (opened count g rows) g rows after) (sym e) (i + 1, omega (arith, h), begins_are before after now (new_node i g) s.told b ∙ ap Some (next_begun g rows i))
 
 -- what holds of the fault of a result that is known
 pub err_told : {A : Type 0} (r : Result A StartFault) (fault : StartFault) (P : StartFault → Type 0) → r ≡ Err fault → P fault → IfErr r P
@@ -158,3 +154,7 @@ one_more (other ∷ items) node i e =
     let behind = one_more items node (length items) refl in
     let more : suc (length (items ++ node ∷ [])) ≡ i + 1 = omega (arith, here, behind) in
     more
+
+-- behind calls that left a count of faults a fault leaves it as before them
+pub leaves_before : (before mid now : ℕ) (fault : StartFault) → mid ≡ before → StartLeaves mid now fault → StartLeaves before now fault
+leaves_before before mid now fault e h = subst (λ (n : ℕ). StartLeaves n now fault) e h

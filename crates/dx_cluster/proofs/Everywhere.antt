@@ -69,6 +69,14 @@ number_at (x ∷ ps) k (suc n) p m e =
     let on : k + 1 + n ≡ k + suc n = omega arith in
     number_at ps (k + 1) n p (first_number k x ps m).1 e ∙ on
 
+-- nodes of so few have small numbers
+pub all_low : (ps : List Node) (k : ℕ) → AreNumbered k ps → k + length ps ≤ 16 → All (λ p. p.number < 16) ps
+all_low [] k m few = All-nil (λ (p : Node). p.number < 16)
+all_low (p ∷ ps) k m few =
+    let n = first_number k p ps m in
+    let own : p.number < 16 = let at = n.0 in omega (arith, at, few) in
+    All-cons (λ (p : Node). p.number < 16) p ps own (all_low ps (k + 1) n.1 (omega (arith, few)))
+
 differ : (a b : ℕ) → b < a → (a == b) ≡ false
 differ a b h = grind (arith, nat_tests, h)
 

@@ -6,10 +6,14 @@ pub mod Chains
 pub mod Opening
 pub mod Beginning
 pub mod Keeping
+pub mod AgreeingInRows
 pub mod Agreeing
 pub mod Counting
 pub mod Idling
 pub mod Turns
 pub mod Kept
+pub mod Across
+pub mod Above
 pub mod Rowed
+pub mod Owning
 pub mod Resuming

@@ -1,9 +1,11 @@
 -- Which nodes are opened over rows, and what the rows are then.
-use Rattle.std.proofs.Common.{◌≡◌, ◌<◌, ◌+◌, ◌-◌, ℕ, zero, suc, List, [], ◌∷◌, ◌++◌, map, length, arith, refl, sym, ap, subst, ◌∙◌, Some, Result, Ok, Err}
+use Rattle.std.proofs.Common.{◌≡◌, ◌<◌, ◌≤◌, ◌+◌, ◌-◌, ◌==◌, ℕ, zero, suc, Bool, true, false, List, [], ◌∷◌, ◌++◌, map, length, arith, refl, sym, ap, subst, ◌∙◌, Some, Result, Ok, Err}
 use Rattle.std.specs.Prelude.{All}
 use Rattle.std.specs.List.{range_with_len}
 use Rattle.std.specs.FinMap.{empty}
-use Rattle.std.proofs.lemmas.List.Elements.{All-cons, All-nil}
+use Rattle.std.proofs.lemmas.Bool.{eqb-true}
+use Rattle.std.proofs.lemmas.Bool.Decides.{nat_tests}
+use Rattle.std.proofs.lemmas.List.Elements.{All-cons, All-nil, All-weaker}
 use Rattle.std.proofs.lemmas.List.FromFn.{length-range_with_len}
 use Rattle.dx_types.specs.declared.Block.{Block}
 use Rattle.dx_types.specs.declared.Genesis.{Genesis}
@@ -14,9 +16,10 @@ use Rattle.dx_io.specs.Rows.{Rows}
 use Rattle.dx_history.specs.Chains.{Unkept, kept}
 use Rattle.dx_node_spec.specs.Node.{Node, new_node}
 use Rattle.dx_cluster.specs.Acts.{started}
-use Rattle.dx_cluster.specs.World.{World, node_of, nodes_of, begun_all, opened, HasRows, KeepsRows}
+use Rattle.dx_cluster.specs.World.{World, node_of, nodes_of, begun_all, opened, HasFirst, KeepsRows}
+use Rattle.dx_cluster.specs.Laws.{HasChain}
 use Rattle.dx_cluster.proofs.Everywhere.{AreNumbered}
-use Rattle.dx_cluster.proofs.Chains.{started_over, new_root, new_started_has, chain_behind, range_split}
+use Rattle.dx_cluster.proofs.Chains.{started_over, new_root, new_started_has, chain_behind, range_split, chain_first}
 
 -- a node that is made starts from its chain
 node_made : (g : Genesis) (number : ℕ) (r : Result (List Block) Unkept) (p : Node) → node_of g number r ≡ Ok p → (blocks : List Block) × (r ≡ Ok blocks) × (started (new_node number g) blocks ≡ p)
@@ -54,6 +57,22 @@ nodes_all P g rows k (suc n) ps e f =
     (All-cons P (started (new_node k g) m.blocks) m.others (f k m.blocks (omega arith) m.chain)
     (nodes_all P g rows (k + 1) n m.others m.made (λ number blocks h c. f number blocks (omega (arith, h)) c)))
 
+-- a number is the first one or a later one
+first_or : (g : Genesis) (rows : Rows) (k m : ℕ) (blocks : List Block) → kept g rows k ≡ Ok blocks → (t : Bool) → (m == k) ≡ t → k ≤ m
+    → (k + 1 ≤ m → (blocks : List Block) × (kept g rows m ≡ Ok blocks)) → (blocks : List Block) × (kept g rows m ≡ Ok blocks)
+first_or g rows k m blocks chain true i low later = (blocks, ap (kept g rows) (eqb-true m k i) ∙ chain)
+first_or g rows k m blocks chain false i low later = later (next m k i low)
+  where
+    next : (m k : ℕ) → (m == k) ≡ false → k ≤ m → k + 1 ≤ m
+    next m k i low = grind (arith, nat_tests, i, low)
+
+-- each of them has a chain
+pub nodes_kept : (g : Genesis) (rows : Rows) (k n : ℕ) (ps : List Node) → nodes_of g rows (range_with_len k n) ≡ Ok ps → (m : ℕ) → k ≤ m → m < k + n → (blocks : List Block) × (kept g rows m ≡ Ok blocks)
+nodes_kept g rows k zero ps e m low high = absurd (omega (arith, low, high))
+nodes_kept g rows k (suc n) ps e m low high =
+    let f = first_made g rows k (range_with_len (k + 1) n) ps e in
+    first_or g rows k m f.blocks f.chain (m == k) refl low (λ later. nodes_kept g rows (k + 1) n f.others f.made m later (omega (arith, high)))
+
 -- the nodes have their numbers
 pub nodes_numbers : (g : Genesis) (rows : Rows) (numbers : List ℕ) (ps : List Node) → nodes_of g rows numbers ≡ Ok ps → map (λ (p : Node). p.number) ps ≡ numbers
 nodes_numbers g rows [] ps e = ap (map (λ (p : Node). p.number)) (sym (ok_same _ _ e))
@@ -88,7 +107,7 @@ opened_all P count g rows w e f =
     let o = opened_made count g rows w e in
     subst (λ (v : World). All P v.nodes) o.are (nodes_all P g rows 0 count o.nodes o.made (λ number blocks h c. f number blocks (omega (arith, h)) c))
 
-opened_rows : (count : ℕ) (g : Genesis) (rows : Rows) (w : World) → opened count g rows ≡ Ok w → begun_all g rows (range_with_len 0 count) ≡ w.rows
+pub opened_rows : (count : ℕ) (g : Genesis) (rows : Rows) (w : World) → opened count g rows ≡ Ok w → begun_all g rows (range_with_len 0 count) ≡ w.rows
 opened_rows count g rows w e = ap (λ (v : World). v.rows) (opened_made count g rows w e).are
 
 -- its nodes are numbered from 0
@@ -100,16 +119,21 @@ opened_numbered count g rows w e =
     let own : AreNumbered 0 o.nodes = nodes_numbers g rows numbers o.nodes o.made ∙ ap (range_with_len 0) (sym long) in
     subst (λ (v : World). AreNumbered 0 v.nodes) o.are own
 
+-- and of its genesis
+pub opened_geneses : (count : ℕ) (g : Genesis) (rows : Rows) (w : World) → opened count g rows ≡ Ok w → All (λ p. p.genesis ≡ g) w.nodes
+opened_geneses count g rows w e =
+    opened_all (λ p. p.genesis ≡ g) count g rows w e (λ number blocks h c. (started_over (new_node number g) blocks).genesis ∙ (new_root number g).1)
+
 -- and its rows are those of their blocks
-pub opened_has : (count : ℕ) (g : Genesis) (rows : Rows) (w : World) → opened count g rows ≡ Ok w → All (HasRows w.rows) w.nodes
+pub opened_has : (count : ℕ) (g : Genesis) (rows : Rows) (w : World) → opened count g rows ≡ Ok w → All (HasChain w.rows) w.nodes
 opened_has count g rows w e =
     let begun_rows = begun_all g rows (range_with_len 0 count) in
-    let all : All (HasRows begun_rows) w.nodes =
-    opened_all (HasRows begun_rows) count g rows w e (λ number blocks h c. new_started_has begun_rows number g blocks (chain_behind g rows count number blocks h c)) in
-    subst (λ (r : Rows). All (HasRows r) w.nodes) (opened_rows count g rows w e) all
+    let all : All (HasChain begun_rows) w.nodes =
+    opened_all (HasChain begun_rows) count g rows w e (λ number blocks h c. new_started_has begun_rows number g blocks (chain_behind g rows count number blocks h c)) in
+    subst (λ (r : Rows). All (HasChain r) w.nodes) (opened_rows count g rows w e) all
 
 pub opened_keeps : (count : ℕ) (g : Genesis) (rows : Rows) (w : World) → opened count g rows ≡ Ok w → KeepsRows (Some w.rows) w
-opened_keeps count g rows w e = record { told = refl; numbered = opened_numbered count g rows w e; chains = opened_has count g rows w e }
+opened_keeps count g rows w e = record { told = refl; numbered = opened_numbered count g rows w e; begun = All-weaker (HasChain w.rows) (HasFirst w.rows) (chain_first w.rows) w.nodes (opened_has count g rows w e) }
 
 -- a stage behind nothing
 bind_same : {A E : Type 0} (r : Result A E) → (r >>= λ x. Ok x) ≡ r

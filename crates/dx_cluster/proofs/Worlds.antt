@@ -7,6 +7,8 @@ use Rattle.std.proofs.lemmas.Slice.Zip.{AllZip-long}
 use Rattle.std.proofs.lemmas.List.{set-get_or, take_all}
 use Rattle.dx_types.specs.declared.no_memory.NoMemory.{NoMemory as OutOfMemory}
 use Rattle.dx_types.specs.declared.Block.{Block}
+use Rattle.dx_io.specs.Rows.{Rows}
+use Rattle.dx_history.specs.Chains.{Unkept, BadAt, OtherGenesis}
 use Rattle.dx_node_spec.specs.Node.{Node}
 use Rattle.dx_node_spec.specs.Placing.{Refusal}
 use Rattle.dx_node.specs.declared.refusal.Refusal.{Refusal as Cause}
@@ -18,11 +20,17 @@ use Rattle.dx_print.specs.declared.words.Word.{Word}
 use Rattle.dx_print.specs.declared.answer.Answer.{Answer}
 use Rattle.dx_print.specs.declared.answer.Answer.TheVariants as answers
 use Rattle.dx_cluster.specs.declared.cluster.Cluster.{Cluster}
+use Rattle.dx_cluster.specs.declared.fault.StartFault.{StartFault}
+use Rattle.dx_cluster.specs.declared.fault.StartFault.TheVariants as starts
 use Rattle.dx_cluster.specs.Stored.{Stored}
 use Rattle.dx_cluster.specs.Acts.{height_of, refused}
 use Rattle.dx_cluster.specs.Refusals.{AnswersCause, cause_answer}
-use Rattle.dx_cluster.specs.World.{World, node_acts, act_at, proposed, put_proposal, node_proposes, propose_at, replied, IsIdle, Stands, StandsForSome, Acts, HasActed, IsDone}
+use Rattle.dx_cluster.specs.World.{World, Goes, node_acts, act_at, proposed, put_proposal, node_proposes, propose_at, replied, IsIdle, Stands, StandsForSome, Acts, HasActed, HasGone, HasStepped, Breaks}
 use Rattle.dx_cluster.proofs.Everywhere.{all_set, all_at}
+
+-- the same error
+same_err : (a b : ℕ × Unkept) → ◌≡◌ {A = Result (World × Answer) (ℕ × Unkept)} (Err a) (Err b) → a ≡ b
+same_err a b e = cc
 
 -- there was no memory for an answer
 no_answer : (P : Answer → Type 0) (result : Result Answer OutOfMemory) → IsErr result → IfOk result P
@@ -42,7 +50,7 @@ module _ {A B : Type 0} (R : A → B → Type 0) where
   found (x ∷ xs) (y ∷ ys) (suc n) z h = found xs ys n z.1 (omega arith)
 
   -- both lists changed at a place
-  both_set : (xs : List A) (ys : List B) (n : ℕ) (x : A) (y : B) → AllZip R xs ys → R x y → AllZip R (slice_set xs n x) (slice_set ys n y)
+  pub both_set : (xs : List A) (ys : List B) (n : ℕ) (x : A) (y : B) → AllZip R xs ys → R x y → AllZip R (slice_set xs n x) (slice_set ys n y)
   both_set [] [] n x y z r = tt
   both_set [] (b ∷ ys) n x y z r = absurd z
   both_set (a ∷ xs) [] n x y z r = absurd z
@@ -163,8 +171,20 @@ has_refused step told old new (Some cause) result t e r a =
     subst (λ (x : Node × Answer). StandsFor new x.0 × (cause_answer cause ≡ x.1)) (sym did) (subst (λ h. StandsFor h p) (sym e) st, refl))
 
 -- an event is done, and its word stands before the answer
-pub is_done : (r : World × Answer) (word : Word) (c : Cluster) (answer : Answer) → HasActed r c answer → IsDone (replied word r) c (record { word = word; answer = answer })
-is_done r word c answer h = record { replied = ap (λ a. record { word = word; answer = a }) h.answered; stands = h.stands }
+pub has_stepped : (r : Goes) (word : Word) (c : Cluster) (answer : Answer) (rows : Option Rows) → HasGone r c answer rows → HasStepped (replied word r) c (record { word = word; answer = answer }) rows
+has_stepped (Ok r) word c answer rows h = (record { replied = ap (λ a. record { word = word; answer = a }) h.0.answered; stands = h.0.stands }, h.1)
+has_stepped (Err unkept) word c answer rows h = absurd h
+
+-- a run that ends at an act ends at the event
+pub breaks_at : (w : World) (word : Word) (r : Goes) (rows : Option Rows) (fault : StartFault) → Breaks w r rows fault → Breaks w (replied word r) rows fault
+breaks_at w word (Ok r) rows (starts.KeptBad node height) h = absurd (let e = h.0 in cc)
+breaks_at w word (Ok r) rows (starts.KeptOther node theirs ours) h = absurd (let e = h.0 in cc)
+breaks_at w word (Ok r) rows starts.KeepFault h = h
+breaks_at w word (Ok r) rows starts.NoMemory h = h
+breaks_at w word (Err unkept) rows (starts.KeptBad node height) h = (ap Err (same_err unkept (node, BadAt height) h.0), h.1)
+breaks_at w word (Err unkept) rows (starts.KeptOther node theirs ours) h = (ap Err (same_err unkept (node, OtherGenesis theirs) h.0), h.1, h.2)
+breaks_at w word (Err unkept) rows starts.KeepFault h = h
+breaks_at w word (Err unkept) rows starts.NoMemory h = h
 
 -- the height of the next node, behind those before it
 next_height : (hs : List Held) (ps : List Node) (i n : ℕ) (node : Held) → AllZip StandsFor hs ps → i < length hs → node ≡ get_or hs i node → ((p : Node) → StandsFor node p → n ≡ height_of p) → map height_of (take i ps) ++ n ∷ [] ≡ map height_of (take (suc i) ps)

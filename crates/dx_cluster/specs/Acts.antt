@@ -4,11 +4,11 @@ use Rattle.dx_types.specs.declared.SubaccountId.{SubaccountId}
 use Rattle.dx_types.specs.declared.OrderId.{OrderId}
 use Rattle.dx_types.specs.declared.Order.{Order}
 use Rattle.dx_types.specs.declared.Msg.{Msg}
+use Rattle.dx_types.specs.declared.Waiting.{Waiting}
 use Rattle.dx_types.specs.declared.Account.{Account}
 use Rattle.dx_types.specs.declared.Block.{Block}
 use Rattle.dx_types.specs.declared.Bad.{Bad}
-use Rattle.dx_spec.specs.State.{State}
-use Rattle.dx_spec.specs.Blocks.{block_step}
+use Rattle.dx_spec.specs.Blocks.{Applied, block_step}
 use Rattle.dx_spec.specs.Audits.{audit}
 use Rattle.dx_node_spec.specs.Refusals.{unknown_market}
 use Rattle.dx_node_spec.specs.Node.{Node, committed}
@@ -86,7 +86,7 @@ abbrev pub sweep_account : SubaccountId → Node → Node × Answer
 sweep_account who p = sweep_answer p (sweep p who)
 
 -- whether a block is good, or its first bad part
-abbrev pub check_answer : Result (State × List ℕ) Bad → Answer
+abbrev pub check_answer : Result Applied Bad → Answer
 check_answer (Ok r) = answers.Good []
 check_answer (Err bad) = answers.Bad bad
 
@@ -126,6 +126,15 @@ tell_speculative who p = (p, balance_answer (height_of p) (tells.speculative_acc
 abbrev pub tell_filled : OrderId → Node → Node × Answer
 tell_filled id p = (p, answers.Amounts (tells.filled_amounts p id).0 (tells.filled_amounts p id).1)
 
+-- the side of the trigger on which prices meet it, and the trigger, of an order that waits
+abbrev pub waits_answer : Option Waiting → Answer
+waits_answer None = answers.Absent
+waits_answer (Some w) = answers.Waits w.above w.trigger
+
+-- a node tells for which trigger an order waits in its committed state
+abbrev pub tell_waits : OrderId → Node → Node × Answer
+tell_waits id p = (p, waits_answer (tells.committed_waiting p id))
+
 -- the best orders of a known market
 abbrev pub best_answer : Option (List ℕ) → Answer
 best_answer None = refused (refusal unknown_market)
@@ -151,7 +160,3 @@ tell_digest p = (p, answers.Digest (height_of p) (committed_digest p))
 -- a node that starts anew from these blocks, and places its stateful orders again
 abbrev pub started : Node → List Block → Node
 started p blocks = placed_again (restarted p blocks)
-
--- a node starts anew from its own blocks, which are what is kept of it, and tells its height
-abbrev pub restart_node : Node → Node × Answer
-restart_node p = (started p p.blocks, answers.Done (Some (height_of (restarted p p.blocks))))

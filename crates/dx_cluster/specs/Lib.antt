@@ -1,6 +1,9 @@
 pub mod Stored
 pub mod Acts
+pub mod Snapshots
 pub mod Refusals
 pub mod World
 pub mod Starts
+pub mod Fitting
 pub mod Laws
+pub mod Counts

@@ -1,5 +1,5 @@
 -- All nodes, slots and kept rows, and what an event does.
-use Rattle.std.specs.Prelude.{◌≡◌, ◌⊎◌, ℕ, Bool, true, false, List, [], ◌∷◌, map, length, sum_by, Option, Some, None, Result, Ok, Err, slice_get, slice_set, All}
+use Rattle.std.specs.Prelude.{◌≡◌, ◌≤◌, ◌⊎◌, ℕ, Bool, true, false, List, [], ◌∷◌, map, length, sum_by, Option, Some, None, is_some, Result, Ok, Err, IfSome, slice_get, slice_set, All}
 use Rattle.std.specs.List.{AllZip, range_with_len, fold}
 use Rattle.std.specs.FinMap.{get, insert, empty}
 use Rattle.dx_types.specs.declared.Block.{Block}
@@ -7,12 +7,11 @@ use Rattle.dx_types.specs.declared.Bad.{Bad}
 use Rattle.dx_types.specs.declared.Genesis.{Genesis}
 use Rattle.dx_io.specs.Rows.{Rows}
 use Rattle.dx_spec.specs.Step.{◌>>=◌}
-use Rattle.dx_spec.specs.State.{genesis_state}
 use Rattle.dx_spec.specs.Blocks.{fills_in}
 use Rattle.dx_codec.specs.Blocks.{block_bytes}
 use Rattle.dx_history.specs.Rows.{place_of}
 use Rattle.dx_codec.specs.Genesis.{digest_of}
-use Rattle.dx_history.specs.Chains.{Unkept, BadAt, OtherGenesis, IsChain, kept, begun}
+use Rattle.dx_history.specs.Chains.{Unkept, BadAt, OtherGenesis, kept, begun}
 use Rattle.dx_node_spec.specs.Node.{Node, new_node}
 use Rattle.dx_node_spec.specs.Commits.{commit}
 use Rattle.dx_node_spec.specs.Placing.{Refusal}
@@ -30,7 +29,8 @@ use Rattle.dx_cluster.specs.declared.cluster.Cluster.{Cluster}
 use Rattle.dx_cluster.specs.declared.fault.StartFault.{StartFault}
 use Rattle.dx_cluster.specs.declared.fault.StartFault.TheVariants as starts
 use Rattle.dx_cluster.specs.Stored.{Stored}
-use Rattle.dx_cluster.specs.Acts.{height_of, refused, place_order, cancel_order, cancel_orders, feed_price, pool_message, sweep_account, check_slot, show_slot, commit_slot, restart_node, started, tell_balance, tell_speculative, tell_filled, tell_best, tell_audit, tell_digest}
+use Rattle.dx_cluster.specs.Acts.{height_of, refused, place_order, cancel_order, cancel_orders, feed_price, pool_message, sweep_account, check_slot, show_slot, commit_slot, started, tell_balance, tell_speculative, tell_filled, tell_best, tell_audit, tell_digest, tell_waits}
+use Rattle.dx_cluster.specs.Snapshots.{Turn, restart_node, rows_snapped, resume_node}
 
 -- the nodes by number, the blocks in the slots, and the kept rows
 pub record World : Type 0 where
@@ -110,39 +110,76 @@ node_proposes w (Some p) slot time = put_proposal w slot (propose p time)
 abbrev pub propose_at : World → ℕ → ℕ → ℕ → World × Answer
 propose_at w node slot time = node_proposes w (slice_get w.nodes node) slot time
 
--- all nodes and slots after an event, and the answer to it
-abbrev pub acted : World → Event → World × Answer
-acted w (events.Place node order) = act_at w node (place_order order)
-acted w (events.Cancel node id until) = act_at w node (cancel_order id until)
-acted w (events.CancelAll node who) = act_at w node (cancel_orders who)
-acted w (events.Message node msg) = act_at w node (pool_message msg)
-acted w (events.Feed node market price) = act_at w node (feed_price market price)
-acted w (events.Sweep node who) = act_at w node (sweep_account who)
-acted w (events.Propose node slot time) = propose_at w node slot time
-acted w (events.Handed slot b) = (record w { slots = insert w.slots slot b }, answers.Done None)
-acted w (events.Show slot) = (w, show_slot (get w.slots slot))
-acted w (events.Check node slot) = act_at w node (check_slot (get w.slots slot))
-acted w (events.Commit node slot) = commit_at w node slot
-acted w (events.Balance node who) = act_at w node (tell_balance who)
-acted w (events.Spec node who) = act_at w node (tell_speculative who)
-acted w (events.Filled node id) = act_at w node (tell_filled id)
-acted w (events.Best node market) = act_at w node (tell_best market)
-acted w (events.Audit node) = act_at w node tell_audit
-acted w (events.Digest node) = act_at w node tell_digest
-acted w (events.Restart node) = act_at w node restart_node
+-- a node's committed state is kept as a snapshot, and its digest is told; where there is no such node, nothing is done
+abbrev pub node_snaps : World → Option Node → World × Answer
+node_snaps w None = (w, answers.Absent)
+node_snaps w (Some p) = (record w { rows = rows_snapped w.rows p }, (tell_digest p).1)
+
+-- the same by the node's number
+abbrev pub snap_at : World → ℕ → World × Answer
+snap_at w node = node_snaps w (slice_get w.nodes node)
+
+-- a run goes on in another world with an answer, or it ends: at a node, by a row that is none of its chain
+abbrev pub Goes : Type 0
+Goes = Result (World × Answer) (ℕ × Unkept)
+
+-- what a turn makes of a node takes its place
+abbrev pub turned : World → ℕ → Turn → Goes
+turned w node (Ok r) = Ok (record w { nodes = slice_set w.nodes node r.0 }, r.1)
+turned w node (Err unkept) = Err (node, unkept)
+
+-- a node's turn by the rows as they stand; where there is no such node, nothing is done
+abbrev pub node_turns : World → Option Node → ℕ → (Rows → Node → Turn) → Goes
+node_turns w None node turn = Ok (w, answers.Absent)
+node_turns w (Some p) node turn = turned w node (turn w.rows p)
+
+-- the same by the node's number
+abbrev pub turn_at : World → ℕ → (Rows → Node → Turn) → Goes
+turn_at w node turn = node_turns w (slice_get w.nodes node) node turn
+
+-- all nodes, slots and rows after an event, and the answer to it; or the run ends
+abbrev pub acted : World → Event → Goes
+acted w (events.Place node order) = Ok (act_at w node (place_order order))
+acted w (events.Cancel node id until) = Ok (act_at w node (cancel_order id until))
+acted w (events.CancelAll node who) = Ok (act_at w node (cancel_orders who))
+acted w (events.Message node msg) = Ok (act_at w node (pool_message msg))
+acted w (events.Feed node market price) = Ok (act_at w node (feed_price market price))
+acted w (events.Sweep node who) = Ok (act_at w node (sweep_account who))
+acted w (events.Propose node slot time) = Ok (propose_at w node slot time)
+acted w (events.Handed slot b) = Ok (record w { slots = insert w.slots slot b }, answers.Done None)
+acted w (events.Show slot) = Ok (w, show_slot (get w.slots slot))
+acted w (events.Check node slot) = Ok (act_at w node (check_slot (get w.slots slot)))
+acted w (events.Commit node slot) = Ok (commit_at w node slot)
+acted w (events.Balance node who) = Ok (act_at w node (tell_balance who))
+acted w (events.Spec node who) = Ok (act_at w node (tell_speculative who))
+acted w (events.Filled node id) = Ok (act_at w node (tell_filled id))
+acted w (events.Best node market) = Ok (act_at w node (tell_best market))
+acted w (events.Audit node) = Ok (act_at w node tell_audit)
+acted w (events.Digest node) = Ok (act_at w node tell_digest)
+acted w (events.Restart node) = turn_at w node restart_node
+acted w (events.Waits node id) = Ok (act_at w node (tell_waits id))
+acted w (events.Snap node) = Ok (snap_at w node)
+acted w (events.Resume node height) = turn_at w node (resume_node height)
 
 -- an event that reads or sets kept rows
 abbrev pub uses_rows : Event → Bool
 uses_rows (events.Commit node slot) = true
 uses_rows (events.Restart node) = true
+uses_rows (events.Snap node) = true
+uses_rows (events.Resume node height) = true
 uses_rows event = false
 
--- the answer behind the event's word
-abbrev pub replied : Word → World × Answer → World × Reply
-replied word r = (r.0, record { word = word; answer = r.1 })
+-- a step of a run: another world and a reply, or the run ends at a node, by a row that is none of its chain
+abbrev pub Steps : Type 0
+Steps = Result (World × Reply) (ℕ × Unkept)
 
--- all nodes and slots after an event, and the reply to it
-abbrev pub step : World → Event → World × Reply
+-- the answer behind the event's word
+abbrev pub replied : Word → Goes → Steps
+replied word (Ok r) = Ok (r.0, record { word = word; answer = r.1 })
+replied word (Err unkept) = Err unkept
+
+-- all nodes, slots and rows after an event, and the reply to it; or the run ends
+abbrev pub step : World → Event → Steps
 step w event = replied (word_of event) (acted w event)
 
 -- a node has no order to place again: so it is between two events
@@ -155,19 +192,18 @@ pub record Stands (c : Cluster) (w : World) : Type 0 where
   pub slots : c.slots ≡ w.slots
   pub idle : All IsIdle w.nodes
 
--- the rows of a node are just those of its blocks, which are folded from its genesis on
-pub record HasRows (rows : Rows) (p : Node) : Type 0 where
-  pub base : p.base ≡ genesis_state p.genesis
-  pub chain : IsChain rows p.number p.genesis p.blocks
+-- a node has its first row
+abbrev pub HasFirst : Rows → Node → Type 0
+HasFirst rows p = is_some (get rows (place_of p.number 0)) ≡ true
 
--- the keeper's rows are those of the world, in which those of each node are just those of its blocks
+-- the keeper's rows are those of the world, in which each node has its first one
 pub record KeepsRows (rows : Option Rows) (w : World) : Type 0 where
   -- it tells the rows of the world
   pub told : rows ≡ Some w.rows
   -- the nodes are numbered from 0
   pub numbered : map (λ p. p.number) w.nodes ≡ range_with_len 0 (length w.nodes)
-  -- a node's rows are those of its blocks
-  pub chains : All (HasRows w.rows) w.nodes
+  -- none starts from nothing again
+  pub begun : All (HasFirst w.rows) w.nodes
 
 -- there are nodes and slots that it stands for
 abbrev pub StandsForSome : Cluster → Type 0
@@ -186,10 +222,25 @@ pub record HasActed (r : World × Answer) (after : Cluster) (answer : Answer) : 
 abbrev pub HasKept : World × Answer → Cluster → Answer → Option Rows → Type 0
 HasKept r after answer rows = HasActed r after answer × KeepsRows rows r.0
 
+-- the run goes on behind an act: its answer, and what the program holds after it
+abbrev pub HasDone : Goes → Cluster → Answer → Type 0
+HasDone (Ok r) after answer = HasActed r after answer
+HasDone (Err unkept) after answer = ⊥
+
+-- the same, and the keeper's rows are those behind it
+abbrev pub HasGone : Goes → Cluster → Answer → Option Rows → Type 0
+HasGone (Ok r) after answer rows = HasKept r after answer rows
+HasGone (Err unkept) after answer rows = ⊥
+
 -- an event is done: the reply to it, and what the program holds after it
 pub record IsDone (r : World × Reply) (after : Cluster) (reply : Reply) : Type 0 where
   pub replied : reply ≡ r.1
   pub stands : Stands after r.0
+
+-- the run goes on behind an event: the reply to it, what the program holds after it, and the keeper's rows behind it
+abbrev pub HasStepped : Steps → Cluster → Reply → Option Rows → Type 0
+HasStepped (Ok r) after reply rows = IsDone r after reply × KeepsRows rows r.0
+HasStepped (Err unkept) after reply rows = ⊥
 
 -- the nodes are started as is told: the program holds them, and the keeper the rows behind their starts
 abbrev pub Opens : Result World (ℕ × Unkept) → Cluster → Option Rows → Type 0
@@ -200,13 +251,17 @@ Opens (Err unkept) c rows = ⊥
 abbrev pub IsBegun : ℕ → Genesis → Rows → Option Rows → Type 0
 IsBegun count g before rows = rows ≡ Some (begun_all g before (range_with_len 0 count))
 
--- the nodes are not started, for the fault: where the rows of a node are no chain, just those before it are
-abbrev pub OpenRefused : Result World (ℕ × Unkept) → Genesis → Rows → Option Rows → StartFault → Type 0
-OpenRefused step g before rows (starts.KeptBad node height) = (step ≡ Err (node, BadAt height)) × IsBegun node g before rows
-OpenRefused step g before rows (starts.KeptOther node theirs ours) =
+-- the rows are those behind the starts of the first of so many nodes, or of all of them
+abbrev pub IsBegunWithin : ℕ → Genesis → Rows → Option Rows → Type 0
+IsBegunWithin count g before rows = (first : ℕ) × (first ≤ count) × IsBegun first g before rows
+
+-- so many nodes are not all started, for the fault: where the rows of a node are no chain, just those before it are
+abbrev pub OpenRefused : ℕ → Result World (ℕ × Unkept) → Genesis → Rows → Option Rows → StartFault → Type 0
+OpenRefused count step g before rows (starts.KeptBad node height) = (step ≡ Err (node, BadAt height)) × IsBegun node g before rows
+OpenRefused count step g before rows (starts.KeptOther node theirs ours) =
     (step ≡ Err (node, OtherGenesis theirs)) × (ours ≡ digest_of g) × IsBegun node g before rows
-OpenRefused step g before rows starts.KeepFault = (count : ℕ) × IsBegun count g before rows
-OpenRefused step g before rows starts.NoMemory = (count : ℕ) × IsBegun count g before rows
+OpenRefused count step g before rows starts.KeepFault = IsBegunWithin count g before rows
+OpenRefused count step g before rows starts.NoMemory = IsBegunWithin count g before rows
 
 -- the keeper failed, or there was no memory
 abbrev pub IsOutside : StartFault → Type 0
@@ -216,11 +271,20 @@ IsOutside fault = (fault ≡ starts.KeepFault) ⊎ (fault ≡ starts.NoMemory)
 abbrev pub AreEither : Option Rows → Rows → Rows → Type 0
 AreEither rows before behind = (rows ≡ Some before) ⊎ (rows ≡ Some behind)
 
--- a run may end at an act for the fault: no row is the cause, and the rows are those before the act, or those behind it
-pub record MayEnd (before behind : World) (rows : Option Rows) (fault : StartFault) : Type 0 where
-  pub outside : IsOutside fault
-  pub either : AreEither rows before.rows behind.rows
+-- the world behind a step of a run; where the run ends it is the one before
+abbrev pub world_or : {A : Type 0} → World → Result (World × A) (ℕ × Unkept) → World
+world_or w (Ok r) = r.0
+world_or w (Err unkept) = w
 
--- an event is not answered for the fault
-abbrev pub Breaks : World × Reply → World → Option Rows → StartFault → Type 0
-Breaks r w rows fault = MayEnd w r.0 rows fault
+-- it is the digest of the genesis of a node
+abbrev pub IsDigestAt : World → ℕ → List ℕ → Type 0
+IsDigestAt w node digest = IfSome (slice_get w.nodes node) (λ p. digest ≡ digest_of p.genesis)
+
+-- a run ends at a step for the fault: a row of a node is none of its chain, and the rows stay; or the keeper failed or
+-- there was no memory, and the rows are those before the step, or those behind it
+abbrev pub Breaks : {A : Type 0} → World → Result (World × A) (ℕ × Unkept) → Option Rows → StartFault → Type 0
+Breaks w step rows (starts.KeptBad node height) = (step ≡ Err (node, BadAt height)) × (rows ≡ Some w.rows)
+Breaks w step rows (starts.KeptOther node theirs ours) =
+    (step ≡ Err (node, OtherGenesis theirs)) × IsDigestAt w node ours × (rows ≡ Some w.rows)
+Breaks w step rows starts.KeepFault = AreEither rows w.rows (world_or w step).rows
+Breaks w step rows starts.NoMemory = AreEither rows w.rows (world_or w step).rows

@@ -5,11 +5,11 @@ ghost use Rattle.dx_node_spec.specs.Node.{Node as PlainNode};
 ghost use Rattle.dx_node_spec.specs.Commits.{placed_again};
 ghost use Rattle.dx_node.specs.Standing.{StandsFor};
 ghost use Rattle.dx_node.specs.Trades.{outcome_of};
-ghost use Rattle.dx_cluster.specs.Acts.{outcome_answer, place_order, cancel_order, cancel_orders, feed_price, pool_message, sweep_account, check_slot, commit_slot, best_answer, tell_balance, tell_speculative, tell_filled, tell_best, tell_audit, tell_digest, show_slot};
+ghost use Rattle.dx_cluster.specs.Acts.{outcome_answer, place_order, cancel_order, cancel_orders, feed_price, pool_message, sweep_account, check_slot, commit_slot, best_answer, tell_balance, tell_speculative, tell_filled, tell_best, tell_audit, tell_digest, tell_waits, waits_answer, show_slot};
 ghost use Rattle.dx_cluster.specs.World.{Acts, IsOutside};
 ghost use Rattle.dx_cluster.specs.Starts.{KeepsBlock, MayKeepBlock};
 ghost use Rattle.dx_cluster.specs.Refusals.{AnswersBlock, AnswersCause, AnswersCommit, cause_answer};
-ghost use Rattle.dx_io.specs.Causes.{Rose};
+ghost use Rattle.dx_io.specs.Causes.{KeepsCount, Rose};
 
 use crate::fault::StartFault;
 use dx_codec::encode_block;
@@ -17,7 +17,7 @@ use dx_io::Keeper;
 use dx_node::{CommitFault, Node, Placed, Refusal};
 use dx_print::Answer;
 use dx_rules::BlockFault;
-use dx_types::{Block, List, Msg, NoMemory, Order, OrderId, SubaccountId};
+use dx_types::{Block, List, Msg, NoMemory, Order, OrderId, SubaccountId, Waiting};
 use std::alloc::Global;
 
 /// The refusal of a market that is unknown.
@@ -192,6 +192,7 @@ pub(crate) fn commit_block<K: Keeper>(
     ensures outside { IfErr result IsOutside }
     ensures either { OnErr result ((p : PlainNode) → StandsFor node.old p
         → MayKeepBlock (K.rows keeper.old) (K.rows keeper.new) p block.now) }
+    ensures good { KeepsCount (K.faults keeper.old) (K.faults keeper.new) result }
     ensures later { K.faults keeper.old ≤ K.faults keeper.new }
     ensures failed { IsErrOf result StartFault.KeepFault → Rose (K.faults keeper.old) (K.faults keeper.new) }
 {
@@ -240,6 +241,26 @@ pub(crate) fn tell_filled(node: &Node, id: &OrderId) -> Answer
         committed,
         speculative,
     }
+}
+
+/// The answer about an order that may wait for its trigger.
+fn waits_answer(waiting: Option<Waiting>) -> Answer
+    ensures { result ≡ waits_answer waiting }
+{
+    match waiting {
+        Some(waiting) => Answer::Waits {
+            above: waiting.above,
+            trigger: waiting.trigger,
+        },
+        None => Answer::Absent,
+    }
+}
+
+/// A node tells for which trigger an order waits in its committed state.
+pub(crate) fn tell_waits(node: &Node, id: &OrderId) -> Answer
+    ensures { Acts (tell_waits id.now) node.now node.now result }
+{
+    waits_answer(node.waiting(id))
 }
 
 /// The answer about the best orders of a market, which may be unknown.

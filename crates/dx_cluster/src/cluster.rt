@@ -5,11 +5,12 @@ ghost use Rattle.std.specs.Prelude.{◌<◌, ◌≤◌, length};
 use crate::acts::{
     cancel_order, cancel_orders, check_block, commit_block, feed_price, place_order, pool_message,
     refused_or_memory, show_block, sweep_account, tell_audit, tell_balance, tell_best, tell_digest,
-    tell_filled, tell_speculative,
+    tell_filled, tell_speculative, tell_waits,
 };
 use crate::fault::StartFault;
 use crate::proposed::proposed;
 use crate::slots::Slots;
+use crate::snapshots::{resume_node, snap_node};
 use crate::starting::{restart_node, start_node};
 use dx_io::Keeper;
 use dx_node::Node;
@@ -30,14 +31,17 @@ pub struct Cluster {
 }
 
 impl Cluster {
-    ghost use Rattle.std.specs.Prelude.{◌≡◌, false, Some, IfOk, OnOk, IfErr, IsErrOf};
+    ghost use Rattle.std.specs.Prelude.{◌≡◌, false, Some, IfOk, OnOk, IfErr, IsErrOf, slice_get};
     ghost use Rattle.std.specs.FinMap.{get};
     ghost use Rattle.dx_spec.specs.Genesis.{IsNatFrom, IsGenesis};
     ghost use Rattle.dx_scenario.specs.Events.{IsOf};
-    ghost use Rattle.dx_io.specs.Causes.{Rose};
+    ghost use Rattle.dx_io.specs.Causes.{KeepsCount, Rose};
     ghost use Rattle.dx_io.specs.Rows.{Rows};
-    ghost use Rattle.dx_cluster.specs.Acts.{place_order, cancel_order, cancel_orders, feed_price, pool_message, sweep_account, check_slot, restart_node, show_slot, tell_balance, tell_speculative, tell_filled, tell_best, tell_audit, tell_digest};
-    ghost use Rattle.dx_cluster.specs.World.{World, opened, heights, act_at, commit_at, propose_at, acted, uses_rows, step, Stands, StandsForSome, KeepsRows, HasActed, HasKept, IsDone, Opens, OpenRefused, MayEnd, Breaks};
+    ghost use Rattle.dx_cluster.specs.Acts.{place_order, cancel_order, cancel_orders, feed_price, pool_message, sweep_account, check_slot, show_slot, tell_balance, tell_speculative, tell_filled, tell_best, tell_audit, tell_digest, tell_waits};
+    ghost use Rattle.dx_cluster.specs.Snapshots.{restart_node, resume_node};
+    ghost use Rattle.dx_cluster.specs.Counts.{StartLeaves};
+    ghost use Rattle.dx_cluster.specs.Fitting.{CommitFits, SnapFits, EventFits};
+    ghost use Rattle.dx_cluster.specs.World.{World, opened, heights, act_at, commit_at, propose_at, snap_at, turn_at, acted, uses_rows, step, Stands, StandsForSome, KeepsRows, HasActed, HasKept, HasDone, HasGone, HasStepped, Opens, OpenRefused, Breaks};
 
     /// From 1 to 16 nodes of one genesis, numbered from 0, each started from the rows that a keeper has of it, and no
     /// slot filled ("Genesis line" in docs/FORMAT.md). A node that has no rows gets the digest of the genesis as its
@@ -45,7 +49,8 @@ impl Cluster {
     ///
     /// The first node whose rows are no chain of the genesis ends the call, `KeptBad` or `KeptOther`: the rows are then
     /// those behind the starts of the nodes before it. `KeepFault` comes only where the keeper's count of faults rose,
-    /// and `NoMemory` where there is none: the rows are then those behind the starts of the first so many nodes.
+    /// and `NoMemory` where there is none: the rows are then those behind the starts of the first so many nodes. Every
+    /// other answer leaves the count.
     pub fn open<K: Keeper>(
         alloc: Global,
         count: u32,
@@ -59,9 +64,11 @@ impl Cluster {
         ensures stands { IfOk result StandsForSome }
         ensures many { IfOk result (λ cluster. length cluster.nodes.items ≡ count) }
         ensures refused { (rows : Rows) → K.rows keeper.old ≡ Some rows → IfErr result (λ fault.
-            OpenRefused (opened count genesis.now rows) genesis.now rows (K.rows keeper.new) fault) }
+            OpenRefused count (opened count genesis.now rows) genesis.now rows (K.rows keeper.new) fault) }
         ensures later { K.faults keeper.old ≤ K.faults keeper.new }
         ensures failed { IsErrOf result StartFault.KeepFault → Rose (K.faults keeper.old) (K.faults keeper.new) }
+        ensures good { KeepsCount (K.faults keeper.old) (K.faults keeper.new) result }
+        ensures still { IfErr result (StartLeaves (K.faults keeper.old) (K.faults keeper.new)) }
     {
         let mut nodes = Vec::new(alloc);
         'nodes: for number in 0..count {
@@ -206,10 +213,14 @@ impl Cluster {
             → HasKept (commit_at w node slot) self.new answer (K.rows keeper.new)) }
         ensures stands { OnOk result (StandsForSome self.new) }
         ensures many { length self.new.nodes.items ≡ length self.old.nodes.items }
+        ensures fits { OnOk result ((w : World) → Stands self.old w
+            → CommitFits (slice_get w.nodes node) (get w.slots slot)) }
         ensures breaks { IfErr result (λ fault. (w : World) → Stands self.old w → KeepsRows (K.rows keeper.old) w
-            → MayEnd w (commit_at w node slot).0 (K.rows keeper.new) fault) }
+            → Breaks w (Ok (commit_at w node slot)) (K.rows keeper.new) fault) }
         ensures later { K.faults keeper.old ≤ K.faults keeper.new }
         ensures failed { IsErrOf result StartFault.KeepFault → Rose (K.faults keeper.old) (K.faults keeper.new) }
+        ensures good { KeepsCount (K.faults keeper.old) (K.faults keeper.new) result }
+        ensures still { IfErr result (StartLeaves (K.faults keeper.old) (K.faults keeper.new)) }
     {
         let Some(block) = self.slots.block(slot) else {
             return Ok(Answer::Empty);
@@ -217,18 +228,59 @@ impl Cluster {
         commit_block(&mut self.nodes[node as usize], block, keeper)
     }
 
+    /// A node's committed state is kept as a snapshot, and its digest is told.
+    fn snap<K: Keeper>(&self, node: u32, keeper: &mut K) -> Result<Answer, StartFault>
+        requires there { node < length self.now.nodes.items }
+        ensures done { IfOk result (λ answer. (w : World) → Stands self.now w → KeepsRows (K.rows keeper.old) w
+            → HasKept (snap_at w node) self.now answer (K.rows keeper.new)) }
+        ensures fits { OnOk result ((w : World) → Stands self.now w → SnapFits (slice_get w.nodes node)) }
+        ensures breaks { IfErr result (λ fault. (w : World) → Stands self.now w → KeepsRows (K.rows keeper.old) w
+            → Breaks w (Ok (snap_at w node)) (K.rows keeper.new) fault) }
+        ensures later { K.faults keeper.old ≤ K.faults keeper.new }
+        ensures failed { IsErrOf result StartFault.KeepFault → Rose (K.faults keeper.old) (K.faults keeper.new) }
+        ensures good { KeepsCount (K.faults keeper.old) (K.faults keeper.new) result }
+        ensures still { IfErr result (StartLeaves (K.faults keeper.old) (K.faults keeper.new)) }
+    {
+        snap_node(&self.nodes[node as usize], node, keeper)
+    }
+
+    /// A node starts again from its snapshot at a height and the rows above it, and tells its height.
+    fn resume<K: Keeper>(
+        &mut self,
+        node: u32,
+        height: u32,
+        keeper: &mut K,
+    ) -> Result<Answer, StartFault>
+        requires stands { StandsForSome self.old }
+        requires there { node < length self.old.nodes.items }
+        ensures done { IfOk result (λ answer. (w : World) → Stands self.old w → KeepsRows (K.rows keeper.old) w
+            → HasGone (turn_at w node (resume_node height)) self.new answer (K.rows keeper.new)) }
+        ensures stands { OnOk result (StandsForSome self.new) }
+        ensures many { length self.new.nodes.items ≡ length self.old.nodes.items }
+        ensures breaks { IfErr result (λ fault. (w : World) → Stands self.old w → KeepsRows (K.rows keeper.old) w
+            → Breaks w (turn_at w node (resume_node height)) (K.rows keeper.new) fault) }
+        ensures later { K.faults keeper.old ≤ K.faults keeper.new }
+        ensures failed { IsErrOf result StartFault.KeepFault → Rose (K.faults keeper.old) (K.faults keeper.new) }
+        ensures good { KeepsCount (K.faults keeper.old) (K.faults keeper.new) result }
+        ensures still { IfErr result (StartLeaves (K.faults keeper.old) (K.faults keeper.new)) }
+    {
+        resume_node(&mut self.nodes[node as usize], node, height, keeper)
+    }
+
     /// A node starts anew from its rows, and tells its height.
     fn restart<K: Keeper>(&mut self, node: u32, keeper: &mut K) -> Result<Answer, StartFault>
         requires stands { StandsForSome self.old }
         requires there { node < length self.old.nodes.items }
         ensures done { IfOk result (λ answer. (w : World) → Stands self.old w → KeepsRows (K.rows keeper.old) w
-            → HasKept (act_at w node restart_node) self.new answer (K.rows keeper.new)) }
+            → HasGone (turn_at w node restart_node) self.new answer (K.rows keeper.new)) }
         ensures stands { OnOk result (StandsForSome self.new) }
         ensures many { length self.new.nodes.items ≡ length self.old.nodes.items }
         ensures breaks { IfErr result (λ fault. (w : World) → Stands self.old w → KeepsRows (K.rows keeper.old) w
-            → MayEnd w (act_at w node restart_node).0 (K.rows keeper.new) fault) }
+            → Breaks w (turn_at w node restart_node) (K.rows keeper.new) fault) }
         ensures later { K.faults keeper.old ≤ K.faults keeper.new }
         ensures failed { IsErrOf result StartFault.KeepFault → Rose (K.faults keeper.old) (K.faults keeper.new) }
+        ensures good { KeepsCount (K.faults keeper.old) (K.faults keeper.new) result }
+        ensures still { IfErr result (StartLeaves (K.faults keeper.old) (K.faults keeper.new)) }
     {
         match restart_node(&mut self.nodes[node as usize], keeper) {
             Ok(height) => Ok(Answer::Done(Some(height))),
@@ -258,6 +310,14 @@ impl Cluster {
         ensures { (w : World) → Stands self.now w → HasActed (act_at w node (tell_filled id.now)) self.now result }
     {
         tell_filled(&self.nodes[node as usize], id)
+    }
+
+    /// A node tells for which trigger an order waits in its committed state.
+    fn waits(&self, node: u32, id: &OrderId) -> Answer
+        requires { node < length self.now.nodes.items }
+        ensures { (w : World) → Stands self.now w → HasActed (act_at w node (tell_waits id.now)) self.now result }
+    {
+        tell_waits(&self.nodes[node as usize], id)
     }
 
     /// A node tells the best orders of a market.
@@ -302,7 +362,7 @@ impl Cluster {
         requires of { IsOf (length self.old.nodes.items) event }
         requires beside { uses_rows event ≡ false }
         ensures done { IfOk result (λ answer. (w : World) → Stands self.old w
-            → HasActed (acted w event) self.new answer) }
+            → HasDone (acted w event) self.new answer) }
         ensures many { length self.new.nodes.items ≡ length self.old.nodes.items }
     {
         match event {
@@ -326,10 +386,14 @@ impl Cluster {
             Event::Balance { node, who } => Ok(self.balance(node, who)),
             Event::Spec { node, who } => Ok(self.speculative(node, who)),
             Event::Filled { node, id } => Ok(self.filled(node, &id)),
+            Event::Waits { node, id } => Ok(self.waits(node, &id)),
             Event::Best { node, market } => Ok(self.best(node, market)),
             Event::Audit { node } => Ok(self.audit(node)),
             Event::Digest { node } => self.digest(node),
-            Event::Commit { .. } | Event::Restart { .. } => unreachable!(),
+            Event::Commit { .. }
+            | Event::Restart { .. }
+            | Event::Snap { .. }
+            | Event::Resume { .. } => unreachable!(),
         }
     }
 
@@ -338,17 +402,22 @@ impl Cluster {
         requires stands { StandsForSome self.old }
         requires of { IsOf (length self.old.nodes.items) event }
         ensures done { IfOk result (λ answer. (w : World) → Stands self.old w → KeepsRows (K.rows keeper.old) w
-            → HasKept (acted w event) self.new answer (K.rows keeper.new)) }
+            → HasGone (acted w event) self.new answer (K.rows keeper.new)) }
         ensures stands { OnOk result (StandsForSome self.new) }
         ensures many { length self.new.nodes.items ≡ length self.old.nodes.items }
+        ensures fits { OnOk result ((w : World) → Stands self.old w → EventFits w event) }
         ensures breaks { IfErr result (λ fault. (w : World) → Stands self.old w → KeepsRows (K.rows keeper.old) w
-            → MayEnd w (acted w event).0 (K.rows keeper.new) fault) }
+            → Breaks w (acted w event) (K.rows keeper.new) fault) }
         ensures later { K.faults keeper.old ≤ K.faults keeper.new }
         ensures failed { IsErrOf result StartFault.KeepFault → Rose (K.faults keeper.old) (K.faults keeper.new) }
+        ensures good { KeepsCount (K.faults keeper.old) (K.faults keeper.new) result }
+        ensures still { IfErr result (StartLeaves (K.faults keeper.old) (K.faults keeper.new)) }
     {
         match event {
             Event::Commit { node, slot } => self.commit(node, slot, keeper),
             Event::Restart { node } => self.restart(node, keeper),
+            Event::Snap { node } => self.snap(node, keeper),
+            Event::Resume { node, height } => self.resume(node, height, keeper),
             _ => Ok(self.act(event)?),
         }
     }
@@ -357,22 +426,26 @@ impl Cluster {
     ///
     /// The cluster stands for some nodes and slots, as it does when it is opened and behind each event. Where the keeper
     /// tells its rows, and they are those of the nodes' blocks, the reply and what the cluster and the keeper hold behind
-    /// it are those of the definition.
+    /// it are those of the definition. What the event keeps has bytes.
     ///
-    /// `NoMemory` where there is none for what it keeps, tests or applies, or for the answer; `KeepFault` only where the
-    /// keeper's count of faults rose; `KeptBad` and `KeptOther` never where the keeper tells its rows. Of the cluster
-    /// nothing is promised then: the run ends. The rows are those before the event, or those behind it.
+    /// `KeptBad` and `KeptOther` exactly where the definition ends the run at a restart or a resume: the rows are then as
+    /// before. `NoMemory` where there is none for what it keeps, tests or applies, or for the answer; `KeepFault` only
+    /// where the keeper's count of faults rose: the rows are then those before the event, or those behind it. Every
+    /// other answer leaves the count. Of the cluster nothing is promised behind a fault: the run ends.
     pub fn serve<K: Keeper>(&mut self, event: Event, keeper: &mut K) -> Result<Reply, StartFault>
         requires stands { StandsForSome self.old }
         requires of { IsOf (length self.old.nodes.items) event }
         ensures done { IfOk result (λ reply. (w : World) → Stands self.old w → KeepsRows (K.rows keeper.old) w
-            → IsDone (step w event) self.new reply × KeepsRows (K.rows keeper.new) (step w event).0) }
+            → HasStepped (step w event) self.new reply (K.rows keeper.new)) }
         ensures stands { OnOk result (StandsForSome self.new) }
         ensures many { length self.new.nodes.items ≡ length self.old.nodes.items }
+        ensures fits { OnOk result ((w : World) → Stands self.old w → EventFits w event) }
         ensures breaks { IfErr result (λ fault. (w : World) → Stands self.old w → KeepsRows (K.rows keeper.old) w
-            → Breaks (step w event) w (K.rows keeper.new) fault) }
+            → Breaks w (step w event) (K.rows keeper.new) fault) }
         ensures later { K.faults keeper.old ≤ K.faults keeper.new }
         ensures failed { IsErrOf result StartFault.KeepFault → Rose (K.faults keeper.old) (K.faults keeper.new) }
+        ensures good { KeepsCount (K.faults keeper.old) (K.faults keeper.new) result }
+        ensures still { IfErr result (StartLeaves (K.faults keeper.old) (K.faults keeper.new)) }
     {
         let word = event.word();
         let answer = self.answer(event, keeper)?;

@@ -5,18 +5,21 @@
 //! `dx_io` (the trait of a keeper). [`Cluster::open`] is equal to `opened` of `specs/World`: each node starts from the
 //! chain of blocks that its rows are, or the first node whose rows are none ends the call. [`Cluster::serve`] is equal
 //! to `step`: for every world that the cluster stands for, the reply is that of the definition, and the cluster and the
-//! keeper's rows are those of the world after the event. Over a keeper that does not tell its rows the cluster stands
-//! for some world at each end. A node's states there are computed again from the genesis each time: the plain fold of
-//! its committed blocks, and its queue behind them. Behind a start and behind a commit a node places its orders again
+//! keeper's rows are those of the world after the event; or the run ends where the definition ends it. Over a keeper that
+//! does not tell its rows the cluster stands for some world at each end. A node's states there are computed again from
+//! its base each time: the plain fold of its blocks behind the genesis or the snapshot that it started from, and its
+//! queue behind them. Behind a start, a resume and a commit a node places its orders again
 //! before the next event, so between two events none is left to place. One more event is one more case of `acted`.
 //!
-//! Nine laws hold of the worlds that a scenario reaches, whatever rows were kept before: the committed state of each
-//! node is the plain fold of its blocks ([`folds_stay_good`]), it is balanced and sound, which its audit shows
-//! ([`states_balance`]), the node's queue is good on it ([`nodes_are_in_order`]), a placing is stopped by risk or a
-//! bound alone ([`placings_stop_by_risk`]), what a node proposes is good on it ([`proposals_are_good`]), nothing but a
-//! commit changes it, by nothing but the block of the slot ([`only_commits_count`]), and nothing else decides the
-//! replies about it ([`committed_replies_agree`]). The rows of each node are just those of its blocks
-//! ([`rows_are_of_blocks`]), and the next run over them goes on with these blocks ([`next_run_goes_on`]).
+//! Twelve laws hold of the worlds that a scenario reaches, whatever rows were kept before: the committed state of each
+//! node is the plain fold of its blocks, from its genesis on while none resumes ([`folds_stay_good`]) and else from its
+//! base on ([`folds_go_on`]), it is balanced and sound, which its audit shows ([`states_balance`]), the node's queue is
+//! good on it ([`nodes_are_in_order`]), a placing is stopped by risk or a bound alone ([`placings_stop_by_risk`]), what a
+//! node proposes is good on it ([`proposals_are_good`]), nothing but a commit changes it, by nothing but the block of the
+//! slot ([`only_commits_count`]), and nothing else decides the replies about it ([`committed_replies_agree`]). The rows of
+//! each node are just those of its blocks while none resumes ([`rows_are_of_blocks`]), and else those of its blocks above
+//! its base ([`rows_are_above`]); where the snapshots at entry are those of the nodes' own blocks they stay so
+//! ([`own_snapshots_stay`]); and the next run over the rows goes on with these blocks ([`next_run_goes_on`]).
 #![tactic(auto)]
 
 mod acts;
@@ -25,13 +28,14 @@ mod fault;
 mod laws;
 mod proposed;
 mod slots;
+mod snapshots;
 mod starting;
 
 pub use cluster::Cluster;
 pub use fault::StartFault;
 pub use laws::{
-    committed_replies_agree, folds_stay_good, next_run_goes_on, nodes_are_in_order,
-    only_commits_count, placings_stop_by_risk, proposals_are_good, rows_are_of_blocks,
-    states_balance,
+    committed_replies_agree, folds_go_on, folds_stay_good, next_run_goes_on, nodes_are_in_order,
+    only_commits_count, own_snapshots_stay, placings_stop_by_risk, proposals_are_good,
+    rows_are_above, rows_are_of_blocks, states_balance,
 };
 pub use slots::Slots;

@@ -2,11 +2,12 @@
 
 ghost use Rattle.std.specs.Prelude.{◌≡◌, ◌≤◌, Some, IfOk, OnOk, IfErr, IsErrOf};
 ghost use Rattle.dx_spec.specs.Genesis.{IsGenesis};
-ghost use Rattle.dx_io.specs.Causes.{Rose};
+ghost use Rattle.dx_io.specs.Causes.{KeepsCount, Rose};
 ghost use Rattle.dx_io.specs.Rows.{Rows};
 ghost use Rattle.dx_node_spec.specs.Node.{Node as PlainNode, new_node};
 ghost use Rattle.dx_node.specs.Standing.{StandsFor};
 ghost use Rattle.dx_node.specs.Restarts.{BeginsRows};
+ghost use Rattle.dx_cluster.specs.Counts.{StartLeaves};
 ghost use Rattle.dx_cluster.specs.Starts.{fault_of, HasStarted, Starts, StartRefused};
 
 use crate::acts::place_list_again;
@@ -36,6 +37,8 @@ pub(crate) fn restart_node<K: Keeper>(node: &mut Node, keeper: &mut K) -> Result
         → BeginsRows (K.rows keeper.old) (K.rows keeper.new) p) }
     ensures refused { IfErr result (λ fault. (p : PlainNode) → StandsFor node.old p
         → (rows : Rows) → K.rows keeper.old ≡ Some rows → StartRefused rows p (K.rows keeper.new) fault) }
+    ensures good { KeepsCount (K.faults keeper.old) (K.faults keeper.new) result }
+    ensures still { IfErr result (StartLeaves (K.faults keeper.old) (K.faults keeper.new)) }
     ensures later { K.faults keeper.old ≤ K.faults keeper.new }
     ensures failed { IsErrOf result StartFault.KeepFault → Rose (K.faults keeper.old) (K.faults keeper.new) }
 {
@@ -60,6 +63,8 @@ pub(crate) fn start_node<K: Keeper>(
     ensures begun { OnOk result (BeginsRows (K.rows keeper.old) (K.rows keeper.new) (new_node number genesis.now)) }
     ensures refused { IfErr result (λ fault. (rows : Rows) → K.rows keeper.old ≡ Some rows
         → StartRefused rows (new_node number genesis.now) (K.rows keeper.new) fault) }
+    ensures good { KeepsCount (K.faults keeper.old) (K.faults keeper.new) result }
+    ensures still { IfErr result (StartLeaves (K.faults keeper.old) (K.faults keeper.new)) }
     ensures later { K.faults keeper.old ≤ K.faults keeper.new }
     ensures failed { IsErrOf result StartFault.KeepFault → Rose (K.faults keeper.old) (K.faults keeper.new) }
 {

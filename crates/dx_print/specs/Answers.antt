@@ -1,9 +1,9 @@
 -- The text of answers.
-use Rattle.std.specs.Prelude.{ℕ, List, [], ◌∷◌, ◌++◌, codes, Option}
+use Rattle.std.specs.Prelude.{ℕ, Bool, if◌then◌else◌, List, [], ◌∷◌, ◌++◌, codes, Option}
 use Rattle.std.specs.List.{flat_map}
 use Rattle.dx_types.specs.declared.Bad.{Bad as BadPart}
 use Rattle.dx_print.specs.declared.answer.Answer.{Answer}
-use Rattle.dx_print.specs.declared.answer.Answer.TheVariants.{Heights, Filled, Rested, Dropped, Stopped, Refused, Done, Swept, Proposed, Bytes, Empty, Absent, Good, Bad, Balance, Amounts, Best, Audit, Digest}
+use Rattle.dx_print.specs.declared.answer.Answer.TheVariants.{Heights, Filled, Rested, Dropped, Stopped, Refused, Done, Swept, Proposed, Bytes, Empty, Absent, Good, Bad, Balance, Amounts, Best, Audit, Digest, Waits, BadSnapshot}
 use Rattle.dx_print.specs.Numbers.{spaced, spaced_option, spaced_hex}
 use Rattle.dx_print.specs.Balances.{balance_text}
 use Rattle.dx_print.specs.Audits.{audit_text}
@@ -36,6 +36,14 @@ good_text numbers = codes " good" ++ flat_map spaced numbers
 abbrev pub bad_text : BadPart → List ℕ
 bad_text b = codes " bad" ++ spaced b.part ++ spaced b.index ++ spaced b.fill ++ spaced b.code
 
+-- the side of the trigger on which prices meet it, 1 above and 0 below, and the trigger
+abbrev pub waits_text : Bool → ℕ → List ℕ
+waits_text above trigger = spaced (if above then 1 else 0) ++ spaced trigger
+
+-- why a node does not start from a snapshot
+abbrev pub bad_snapshot_text : ℕ → List ℕ
+bad_snapshot_text number = codes " bad" ++ spaced number
+
 -- the text of an answer
 abbrev pub answer_text : Answer → List ℕ
 answer_text (Heights heights) = flat_map spaced heights
@@ -57,3 +65,5 @@ answer_text (Amounts committed speculative) = spaced committed ++ spaced specula
 answer_text (Best levels) = flat_map spaced levels
 answer_text (Audit audit) = audit_text audit
 answer_text (Digest height digest) = spaced height ++ spaced_hex digest
+answer_text (Waits above trigger) = waits_text above trigger
+answer_text (BadSnapshot number) = bad_snapshot_text number

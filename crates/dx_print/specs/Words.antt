@@ -2,7 +2,7 @@
 use Rattle.std.specs.Prelude.{ℕ, List, [], ◌∷◌, codes, find, Option}
 use Rattle.std.specs.Str.{bytes_eq}
 use Rattle.dx_print.specs.declared.words.Word.{Word}
-use Rattle.dx_print.specs.declared.words.Word.TheVariants.{Genesis, Place, Cancel, CancelAll, Message, Feed, Sweep, Propose, Block, Show, Check, Commit, Balance, Spec, Filled, Best, Audit, Digest, Restart}
+use Rattle.dx_print.specs.declared.words.Word.TheVariants.{Genesis, Place, Cancel, CancelAll, Message, Feed, Sweep, Propose, Block, Show, Check, Commit, Balance, Spec, Filled, Best, Audit, Digest, Restart, Waits, Snap, Resume}
 
 -- the text of a word
 abbrev pub word_text : Word → List ℕ
@@ -25,10 +25,13 @@ word_text Best = codes "best"
 word_text Audit = codes "audit"
 word_text Digest = codes "digest"
 word_text Restart = codes "restart"
+word_text Waits = codes "waits"
+word_text Snap = codes "snap"
+word_text Resume = codes "resume"
 
 -- all words
 abbrev pub words : List Word
-words = Genesis ∷ Place ∷ Cancel ∷ CancelAll ∷ Message ∷ Feed ∷ Sweep ∷ Propose ∷ Block ∷ Show ∷ Check ∷ Commit ∷ Balance ∷ Spec ∷ Filled ∷ Best ∷ Audit ∷ Digest ∷ Restart ∷ []
+words = Genesis ∷ Place ∷ Cancel ∷ CancelAll ∷ Message ∷ Feed ∷ Sweep ∷ Propose ∷ Block ∷ Show ∷ Check ∷ Commit ∷ Balance ∷ Spec ∷ Filled ∷ Best ∷ Audit ∷ Digest ∷ Restart ∷ Waits ∷ Snap ∷ Resume ∷ []
 
 -- the word of a text; any other text is none
 unfoldable pub word_named : List ℕ → Option Word

@@ -1,6 +1,6 @@
 ghost use Rattle.std.specs.Prelude.{◌≡◌, ◌++◌, OnOk};
 ghost use Rattle.dx_print.specs.Numbers.{spaced, spaced_hex};
-ghost use Rattle.dx_print.specs.Answers.{stopped_text, refused_text, done_text, swept_text, proposed_text, good_text, bad_text, answer_text};
+ghost use Rattle.dx_print.specs.Answers.{stopped_text, refused_text, done_text, swept_text, proposed_text, good_text, bad_text, waits_text, answer_text, bad_snapshot_text};
 
 use crate::audits::push_audit;
 use crate::balances::push_balance;
@@ -67,7 +67,7 @@ pub enum Answer {
     Bytes(List<u8>),
     /// The slot was never filled.
     Empty,
-    /// The account is not kept.
+    /// The account, or the snapshot, is not kept, or no such order waits.
     Absent,
     /// The block is good: for a commit its height and the results of its messages.
     Good(List<u32>),
@@ -98,6 +98,18 @@ pub enum Answer {
         height: u32,
         /// The SHA-256 of its bytes.
         digest: [u8; 32],
+    },
+    /// The order waits for its trigger.
+    Waits {
+        /// Whether a price at the trigger or above it meets it; else one at the trigger or below it does.
+        above: bool,
+        /// The price, from 1 to 2^48 − 1.
+        trigger: u64,
+    },
+    /// A node does not start from a snapshot.
+    BadSnapshot {
+        /// The number of the cause.
+        number: u32,
     },
 }
 
@@ -178,6 +190,20 @@ fn push_digest(out: &mut Vec<u8>, height: u32, digest: &[u8]) -> Result<(), NoMe
     push_hex(out, digest)
 }
 
+fn push_waits(out: &mut Vec<u8>, above: bool, trigger: u64) -> Result<(), NoMemory>
+    ensures { OnOk result (out.new.items ≡ out.old.items ++ waits_text above trigger) }
+{
+    push_number(out, u64::from(above))?;
+    push_number(out, trigger)
+}
+
+fn push_bad_snapshot(out: &mut Vec<u8>, number: u32) -> Result<(), NoMemory>
+    ensures { OnOk result (out.new.items ≡ out.old.items ++ bad_snapshot_text number) }
+{
+    push_text(out, " bad")?;
+    push_number(out, u64::from(number))
+}
+
 /// Puts the text of an answer behind the others.
 pub fn push_answer(out: &mut Vec<u8>, answer: &Answer) -> Result<(), NoMemory>
     ensures { OnOk result (out.new.items ≡ out.old.items ++ answer_text answer.now) }
@@ -212,5 +238,7 @@ pub fn push_answer(out: &mut Vec<u8>, answer: &Answer) -> Result<(), NoMemory>
         Answer::Best(levels) => push_amounts(out, levels),
         Answer::Audit(audit) => push_audit(out, audit),
         Answer::Digest { height, digest } => push_digest(out, *height, digest),
+        Answer::Waits { above, trigger } => push_waits(out, *above, *trigger),
+        Answer::BadSnapshot { number } => push_bad_snapshot(out, *number),
     }
 }

@@ -46,7 +46,7 @@ fn placed() -> [Row; 9] {
 }
 
 /// Replies of a node and on blocks.
-fn told() -> [Row; 12] {
+fn told() -> [Row; 16] {
     let (fills, offsets) = (0, 2);
     let proposed = Answer::Proposed {
         height: 2,
@@ -67,6 +67,10 @@ fn told() -> [Row; 12] {
         speculative: 262_606_308_636,
     };
     let best = Answer::Best([303_107, 585, 312_568, 65]);
+    let waits = Answer::Waits {
+        above: true,
+        trigger: 5_050_000_000,
+    };
     [
         (4, Word::Message, Answer::Done(None), "4 message ok\n"),
         (15, Word::Feed, refused(2, None), "15 feed refused 2\n"),
@@ -95,6 +99,15 @@ fn told() -> [Row; 12] {
             "120 filled 175070872424 262606308636\n",
         ),
         (60, Word::Best, best, "60 best 303107 585 312568 65\n"),
+        (9, Word::Waits, waits, "9 waits 1 5050000000\n"),
+        (11, Word::Waits, Answer::Absent, "11 waits none\n"),
+        (19, Word::Resume, Answer::Absent, "19 resume none\n"),
+        (
+            20,
+            Word::Resume,
+            Answer::BadSnapshot { number: 4 },
+            "20 resume bad 4\n",
+        ),
     ]
 }
 

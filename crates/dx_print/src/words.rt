@@ -42,10 +42,16 @@ pub enum Word {
     Digest,
     /// A node is started from its kept blocks.
     Restart,
+    /// It is told for which trigger an order waits.
+    Waits,
+    /// The committed state is kept as a snapshot.
+    Snap,
+    /// A node is started from a snapshot and the later blocks.
+    Resume,
 }
 
 /// All words.
-const WORDS: [Word; 19] = [
+const WORDS: [Word; 22] = [
     Word::Genesis,
     Word::Place,
     Word::Cancel,
@@ -65,6 +71,9 @@ const WORDS: [Word; 19] = [
     Word::Audit,
     Word::Digest,
     Word::Restart,
+    Word::Waits,
+    Word::Snap,
+    Word::Resume,
 ];
 
 impl Word {
@@ -92,6 +101,9 @@ impl Word {
             Word::Audit => "audit",
             Word::Digest => "digest",
             Word::Restart => "restart",
+            Word::Waits => "waits",
+            Word::Snap => "snap",
+            Word::Resume => "resume",
         }
     }
 

@@ -1,2 +1,4 @@
 pub mod Lists
 pub mod Reaching
+pub mod Scales
+pub mod Rereading

@@ -10,14 +10,14 @@ use Rattle.dx_print.specs.declared.words.Word.TheVariants as words
 use Rattle.dx_types.specs.declared.SubaccountId.{SubaccountId}
 use Rattle.dx_types.specs.declared.OrderId.{OrderId}
 use Rattle.dx_scenario.specs.declared.event.Event.{Event}
-use Rattle.dx_scenario.specs.declared.event.Event.TheVariants.{Place, Cancel, CancelAll, Message, Feed, Sweep, Restart, Propose, Handed, Show, Check, Commit, Balance, Spec, Filled, Best, Audit, Digest}
+use Rattle.dx_scenario.specs.declared.event.Event.TheVariants.{Place, Cancel, CancelAll, Message, Feed, Sweep, Restart, Propose, Handed, Show, Check, Commit, Balance, Spec, Filled, Best, Audit, Digest, Waits, Snap, Resume}
 use Rattle.dx_scenario.specs.declared.fault.LineFault.{LineFault}
 use Rattle.dx_scenario.specs.Parts.{Reads, part, within, nat_part, node_part, slot_part, last_slot, value_part, closed, line_ends, u32_part, line_u32, u64_part, value_of, word_part}
 use Rattle.dx_scenario.specs.Names.{subaccount_in, subaccount_part, order_id_part, short_term_id_of, short_term_id_part}
 use Rattle.dx_scenario.specs.Orders.{order_part}
 use Rattle.dx_scenario.specs.Messages.{msg_part}
 use Rattle.dx_scenario.specs.Blocks.{block_in}
-use Rattle.dx_scenario.specs.Behind.{lone_node, node_and_account, node_and_slot, place_event, cancel_event, message_event, feed_event, propose_event, handed_event, show_event, filled_event, best_event}
+use Rattle.dx_scenario.specs.Behind.{lone_node, node_and_account, node_and_slot, place_event, cancel_event, message_event, feed_event, propose_event, handed_event, show_event, node_and_id, best_event, resume_event}
 use Rattle.dx_scenario.specs.Events.{event_behind, event_of, IsOf}
 
 module _ {A B : Type 0} (P : B → Type 0) where
@@ -106,19 +106,26 @@ module _ (nodes : ℕ) (some : 0 < nodes) (d : Data) where
   unfolding show_event
   show_there = stage_gives (IsOf nodes) (λ slot. slot ≤ last_slot) (slot_part 1 d) _ (slot_there 1 d) (λ slot k. ends_then (IsOf nodes) (line_ends 2 d) (Show slot) k)
 
-  filled_there : IfOk (filled_event nodes d) (IsOf nodes)
-  unfolding filled_event
-  filled_there = node_then (IsOf nodes) _ (λ node h. any_stage (IsOf nodes) (order_id_part 2 2 d) _ (λ id. ends_then (IsOf nodes) (line_ends 3 d) (Filled node id) h))
+  id_there : IfOk (node_and_id nodes d) (λ r. r.0 < nodes)
+  unfolding node_and_id
+  id_there = node_then (λ (r : ℕ × OrderId). r.0 < nodes) _ (λ node h. any_stage (λ (r : ℕ × OrderId). r.0 < nodes) (order_id_part 2 2 d) _ (λ id. ends_then (λ (r : ℕ × OrderId). r.0 < nodes) (line_ends 3 d) (node, id) h))
 
   best_there : IfOk (best_event nodes d) (IsOf nodes)
   unfolding best_event
   best_there = node_then (IsOf nodes) _ (λ node h. any_stage (IsOf nodes) (line_u32 2 d) _ (λ market. ends_then (IsOf nodes) (line_ends 3 d) (Best node market) h))
+
+  resume_there : IfOk (resume_event nodes d) (IsOf nodes)
+  unfolding resume_event
+  resume_there = node_then (IsOf nodes) _ (λ node h. any_stage (IsOf nodes) (line_u32 2 d) _ (λ height. ends_then (IsOf nodes) (line_ends 3 d) (Resume node height) h))
 
   lone_then : (f : ℕ → Event) → ((node : ℕ) → node < nodes → IsOf nodes (f node)) → IfOk (lone_node nodes d >>= λ node. Ok (f node)) (IsOf nodes)
   lone_then f h = stage_gives (IsOf nodes) (λ node. node < nodes) (lone_node nodes d) (λ node. Ok (f node)) lone_there h
 
   account_then : (f : ℕ → SubaccountId → Event) → ((node : ℕ) (who : SubaccountId) → node < nodes → IsOf nodes (f node who)) → IfOk (node_and_account nodes d >>= λ r. Ok (f r.0 r.1)) (IsOf nodes)
   account_then f h = stage_gives (IsOf nodes) (λ (r : ℕ × SubaccountId). r.0 < nodes) (node_and_account nodes d) (λ r. Ok (f r.0 r.1)) account_there (λ r k. h r.0 r.1 k)
+
+  id_then : (f : ℕ → OrderId → Event) → ((node : ℕ) (id : OrderId) → node < nodes → IsOf nodes (f node id)) → IfOk (node_and_id nodes d >>= λ r. Ok (f r.0 r.1)) (IsOf nodes)
+  id_then f h = stage_gives (IsOf nodes) (λ (r : ℕ × OrderId). r.0 < nodes) (node_and_id nodes d) (λ r. Ok (f r.0 r.1)) id_there (λ r k. h r.0 r.1 k)
 
   slot_then : (f : ℕ → ℕ → Event) → ((node slot : ℕ) → (node < nodes) × (slot ≤ last_slot) → IsOf nodes (f node slot)) → IfOk (node_and_slot nodes d >>= λ r. Ok (f r.0 r.1)) (IsOf nodes)
   slot_then f h = stage_gives (IsOf nodes) (λ (r : ℕ × ℕ). (r.0 < nodes) × (r.1 ≤ last_slot)) (node_and_slot nodes d) (λ r. Ok (f r.0 r.1)) both_there (λ r k. h r.0 r.1 k)
@@ -139,11 +146,14 @@ behind_there nodes some d words.Check = slot_then nodes some d Check (λ node sl
 behind_there nodes some d words.Commit = slot_then nodes some d Commit (λ node slot h. h)
 behind_there nodes some d words.Balance = account_then nodes some d Balance (λ node who h. h)
 behind_there nodes some d words.Spec = account_then nodes some d Spec (λ node who h. h)
-behind_there nodes some d words.Filled = filled_there nodes some d
+behind_there nodes some d words.Filled = id_then nodes some d Filled (λ node id h. h)
 behind_there nodes some d words.Best = best_there nodes some d
 behind_there nodes some d words.Audit = lone_then nodes some d Audit (λ node h. h)
 behind_there nodes some d words.Digest = lone_then nodes some d Digest (λ node h. h)
 behind_there nodes some d words.Restart = lone_then nodes some d Restart (λ node h. h)
+behind_there nodes some d words.Waits = id_then nodes some d Waits (λ node id h. h)
+behind_there nodes some d words.Snap = lone_then nodes some d Snap (λ node h. h)
+behind_there nodes some d words.Resume = resume_there nodes some d
 
 -- the event of a line
 pub event_there : (nodes : ℕ) (line : List ℕ) → 0 < nodes → IfOk (event_of nodes line) (IsOf nodes)

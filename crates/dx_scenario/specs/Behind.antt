@@ -2,8 +2,9 @@
 use Rattle.std.specs.Prelude.{ℕ, Result, Ok}
 use Rattle.serde_json.specs.Data.{Data}
 use Rattle.dx_types.specs.declared.SubaccountId.{SubaccountId}
+use Rattle.dx_types.specs.declared.OrderId.{OrderId}
 use Rattle.dx_scenario.specs.declared.event.Event.{Event}
-use Rattle.dx_scenario.specs.declared.event.Event.TheVariants.{Place, Cancel, Message, Feed, Propose, Handed, Show, Filled, Best}
+use Rattle.dx_scenario.specs.declared.event.Event.TheVariants.{Place, Cancel, Message, Feed, Propose, Handed, Show, Best, Filled, Resume}
 use Rattle.dx_spec.specs.Step.{◌>>=◌, ◌>>◌}
 use Rattle.dx_scenario.specs.Parts.{line_ends, line_u32, u64_part, node_part, slot_part}
 use Rattle.dx_scenario.specs.Names.{subaccount_part, order_id_part, short_term_id_part}
@@ -11,7 +12,7 @@ use Rattle.dx_scenario.specs.Orders.{order_part}
 use Rattle.dx_scenario.specs.Messages.{msg_part}
 use Rattle.dx_scenario.specs.Blocks.{block_in}
 
--- behind `audit`, `digest` and `restart`: node
+-- behind `audit`, `digest`, `restart` and `snap`: node
 unfoldable pub lone_node : ℕ → Data → Result ℕ ℕ
 lone_node nodes d = do
   node ← node_part nodes d
@@ -92,13 +93,13 @@ show_event d = do
   line_ends 2 d
   Ok (Show slot)
 
--- behind `filled`: node and order id
-unfoldable pub filled_event : ℕ → Data → Result Event ℕ
-filled_event nodes d = do
+-- behind `filled` and `waits`: node and order id
+unfoldable pub node_and_id : ℕ → Data → Result (ℕ × OrderId) ℕ
+node_and_id nodes d = do
   node ← node_part nodes d
   id ← order_id_part 2 2 d
   line_ends 3 d
-  Ok (Filled node id)
+  Ok (node, id)
 
 -- behind `best`: node and market
 unfoldable pub best_event : ℕ → Data → Result Event ℕ
@@ -107,3 +108,11 @@ best_event nodes d = do
   market ← line_u32 2 d
   line_ends 3 d
   Ok (Best node market)
+
+-- behind `resume`: node and height
+unfoldable pub resume_event : ℕ → Data → Result Event ℕ
+resume_event nodes d = do
+  node ← node_part nodes d
+  height ← line_u32 2 d
+  line_ends 3 d
+  Ok (Resume node height)

@@ -3,11 +3,11 @@ use Rattle.std.specs.Prelude.{◌≡◌, ℕ, ◌<◌, ◌≤◌, List, Result, 
 use Rattle.serde_json.specs.Data.{Data}
 use Rattle.dx_spec.specs.Step.{◌>>=◌}
 use Rattle.dx_scenario.specs.declared.event.Event.{Event}
-use Rattle.dx_scenario.specs.declared.event.Event.TheVariants.{Place, Cancel, CancelAll, Message, Feed, Sweep, Restart, Propose, Handed, Show, Check, Commit, Balance, Spec, Filled, Best, Audit, Digest}
+use Rattle.dx_scenario.specs.declared.event.Event.TheVariants.{Place, Cancel, CancelAll, Message, Feed, Sweep, Restart, Propose, Handed, Show, Check, Commit, Balance, Spec, Filled, Best, Audit, Digest, Waits, Snap, Resume}
 use Rattle.dx_print.specs.declared.words.Word.{Word}
 use Rattle.dx_print.specs.declared.words.Word.TheVariants as words
 use Rattle.dx_scenario.specs.Parts.{value_of, word_part, last_slot}
-use Rattle.dx_scenario.specs.Behind.{lone_node, node_and_account, node_and_slot, place_event, cancel_event, message_event, feed_event, propose_event, handed_event, show_event, filled_event, best_event}
+use Rattle.dx_scenario.specs.Behind.{lone_node, node_and_account, node_and_slot, place_event, cancel_event, message_event, feed_event, propose_event, handed_event, show_event, node_and_id, best_event, resume_event}
 
 -- the word of an event
 abbrev pub word_of : Event → Word
@@ -29,6 +29,9 @@ word_of (Best node market) = words.Best
 word_of (Audit node) = words.Audit
 word_of (Digest node) = words.Digest
 word_of (Restart node) = words.Restart
+word_of (Waits node id) = words.Waits
+word_of (Snap node) = words.Snap
+word_of (Resume node height) = words.Resume
 
 -- the event of a word and of the elements behind it; `genesis` is unknown on a later line
 unfoldable pub event_behind : ℕ → Data → Word → Result Event ℕ
@@ -46,11 +49,14 @@ event_behind nodes d words.Check = node_and_slot nodes d >>= λ r. Ok (Check r.0
 event_behind nodes d words.Commit = node_and_slot nodes d >>= λ r. Ok (Commit r.0 r.1)
 event_behind nodes d words.Balance = node_and_account nodes d >>= λ r. Ok (Balance r.0 r.1)
 event_behind nodes d words.Spec = node_and_account nodes d >>= λ r. Ok (Spec r.0 r.1)
-event_behind nodes d words.Filled = filled_event nodes d
+event_behind nodes d words.Filled = node_and_id nodes d >>= λ r. Ok (Filled r.0 r.1)
 event_behind nodes d words.Best = best_event nodes d
 event_behind nodes d words.Audit = lone_node nodes d >>= λ node. Ok (Audit node)
 event_behind nodes d words.Digest = lone_node nodes d >>= λ node. Ok (Digest node)
 event_behind nodes d words.Restart = lone_node nodes d >>= λ node. Ok (Restart node)
+event_behind nodes d words.Waits = node_and_id nodes d >>= λ r. Ok (Waits r.0 r.1)
+event_behind nodes d words.Snap = lone_node nodes d >>= λ node. Ok (Snap node)
+event_behind nodes d words.Resume = resume_event nodes d
 
 -- the event of a line, in a scenario of so many nodes, or the place of what is wrong
 abbrev pub event_of : ℕ → List ℕ → Result Event ℕ
@@ -76,3 +82,6 @@ IsOf nodes (Filled node id) = node < nodes
 IsOf nodes (Best node market) = node < nodes
 IsOf nodes (Audit node) = node < nodes
 IsOf nodes (Digest node) = node < nodes
+IsOf nodes (Waits node id) = node < nodes
+IsOf nodes (Snap node) = node < nodes
+IsOf nodes (Resume node height) = node < nodes

@@ -1,7 +1,7 @@
 ghost use Rattle.std.specs.Prelude.{◌<◌};
 ghost use Rattle.serde_json.specs.View.{view};
 ghost use Rattle.dx_scenario.specs.Parts.{Finds, Reads};
-ghost use Rattle.dx_scenario.specs.Behind.{lone_node, node_and_account, node_and_slot, place_event, cancel_event, message_event, feed_event, propose_event, handed_event, show_event, filled_event, best_event};
+ghost use Rattle.dx_scenario.specs.Behind.{lone_node, node_and_account, node_and_slot, place_event, cancel_event, message_event, feed_event, propose_event, handed_event, show_event, node_and_id, best_event, resume_event};
 
 use crate::blocks::block_in;
 use crate::event::Event;
@@ -10,11 +10,11 @@ use crate::messages::msg_part;
 use crate::names::{order_id_part, short_term_id_part, subaccount_part};
 use crate::orders::order_part;
 use crate::parts::{line_ends, line_u32, node_part, slot_part, u64_part};
-use dx_types::SubaccountId;
+use dx_types::{OrderId, SubaccountId};
 use serde_json::Value;
 use std::alloc::Global;
 
-/// What stands behind `audit`, `digest` and `restart`: node.
+/// What stands behind `audit`, `digest`, `restart` and `snap`: node.
 #[tactic(auto, unfolding(crate::specs::Behind::lone_node))]
 pub fn lone_node(line: &Value, nodes: u32) -> Result<u32, LineFault>
     requires { 0 < nodes }
@@ -137,16 +137,16 @@ pub fn show_event(line: &Value) -> Result<Event, LineFault>
     Ok(Event::Show { slot })
 }
 
-/// What stands behind `filled`: node and order id.
-#[tactic(auto, unfolding(crate::specs::Behind::filled_event))]
-pub fn filled_event(line: &Value, nodes: u32) -> Result<Event, LineFault>
+/// What stands behind `filled` and `waits`: node and order id.
+#[tactic(auto, unfolding(crate::specs::Behind::node_and_id))]
+pub fn node_and_id(line: &Value, nodes: u32) -> Result<(u32, OrderId), LineFault>
     requires { 0 < nodes }
-    ensures { Finds result (filled_event nodes (view line.now)) }
+    ensures { Finds result (node_and_id nodes (view line.now)) }
 {
     let node = node_part(line, nodes)?;
     let id = order_id_part(line, 2, 2)?;
     line_ends(line, 3)?;
-    Ok(Event::Filled { node, id })
+    Ok((node, id))
 }
 
 /// What stands behind `best`: node and market.
@@ -159,4 +159,16 @@ pub fn best_event(line: &Value, nodes: u32) -> Result<Event, LineFault>
     let market = line_u32(line, 2)?;
     line_ends(line, 3)?;
     Ok(Event::Best { node, market })
+}
+
+/// What stands behind `resume`: node and height.
+#[tactic(auto, unfolding(crate::specs::Behind::resume_event))]
+pub fn resume_event(line: &Value, nodes: u32) -> Result<Event, LineFault>
+    requires { 0 < nodes }
+    ensures { Finds result (resume_event nodes (view line.now)) }
+{
+    let node = node_part(line, nodes)?;
+    let height = line_u32(line, 2)?;
+    line_ends(line, 3)?;
+    Ok(Event::Resume { node, height })
 }

@@ -4,8 +4,8 @@ ghost use Rattle.dx_scenario.specs.Parts.{Reads};
 ghost use Rattle.dx_scenario.specs.Events.{word_of, event_behind, event_of, IsOf};
 
 use crate::behind::{
-    best_event, cancel_event, feed_event, filled_event, handed_event, lone_node, message_event,
-    node_and_account, node_and_slot, place_event, propose_event, show_event,
+    best_event, cancel_event, feed_event, handed_event, lone_node, message_event, node_and_account,
+    node_and_id, node_and_slot, place_event, propose_event, resume_event, show_event,
 };
 use crate::fault::LineFault;
 use crate::parts::word_part;
@@ -143,6 +143,25 @@ pub enum Event {
         /// The node.
         node: u32,
     },
+    /// A node tells for which trigger an order waits in its committed state.
+    Waits {
+        /// The node.
+        node: u32,
+        /// The order's id.
+        id: OrderId,
+    },
+    /// A node's committed state is kept as a snapshot.
+    Snap {
+        /// The node.
+        node: u32,
+    },
+    /// A node starts again from its snapshot at a height and the later blocks.
+    Resume {
+        /// The node.
+        node: u32,
+        /// The height.
+        height: u32,
+    },
 }
 
 impl Event {
@@ -169,6 +188,9 @@ impl Event {
             Event::Audit { .. } => Word::Audit,
             Event::Digest { .. } => Word::Digest,
             Event::Restart { .. } => Word::Restart,
+            Event::Waits { .. } => Word::Waits,
+            Event::Snap { .. } => Word::Snap,
+            Event::Resume { .. } => Word::Resume,
         }
     }
 }
@@ -197,11 +219,14 @@ fn event_behind(alloc: Global, line: &Value, nodes: u32, word: Word) -> Result<E
             node_and_account(line, nodes).map(|(node, who)| Event::Balance { node, who })
         }
         Word::Spec => node_and_account(line, nodes).map(|(node, who)| Event::Spec { node, who }),
-        Word::Filled => filled_event(line, nodes),
+        Word::Filled => node_and_id(line, nodes).map(|(node, id)| Event::Filled { node, id }),
         Word::Best => best_event(line, nodes),
         Word::Audit => lone_node(line, nodes).map(|node| Event::Audit { node }),
         Word::Digest => lone_node(line, nodes).map(|node| Event::Digest { node }),
         Word::Restart => lone_node(line, nodes).map(|node| Event::Restart { node }),
+        Word::Waits => node_and_id(line, nodes).map(|(node, id)| Event::Waits { node, id }),
+        Word::Snap => lone_node(line, nodes).map(|node| Event::Snap { node }),
+        Word::Resume => resume_event(line, nodes),
     }
 }
 

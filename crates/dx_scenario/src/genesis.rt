@@ -1,19 +1,20 @@
 ghost use Rattle.std.specs.Prelude.{◌≡◌, ◌<◌, ◌≤◌, pos, negsuc, ◌+ℤ◌, ◌≤ℤ◌, not, IfOk, OnOk, All, length};
 ghost use Rattle.serde_json.specs.View.{view, items_view};
 ghost use Rattle.dx_spec.specs.Step.{refuse};
-ghost use Rattle.dx_spec.specs.Genesis.{IsFrom, IsNatFrom, IsMarketParams, IsParams, IsGenesis};
+ghost use Rattle.dx_spec.specs.Genesis.{IsFrom, IsNatFrom, IsParams, IsGenesis};
 ghost use Rattle.dx_scenario.specs.Parts.{Finds, Reads, value_of};
-ghost use Rattle.dx_scenario.specs.Genesis.{is_value_exponent, market_of, rates_of, IsRates, markets_of, params_in, genesis_in, genesis_behind, genesis_of};
+ghost use Rattle.dx_scenario.specs.Genesis.{is_value_exponent, market_of, rates_of, IsRates, IsUnscaled, markets_of, params_in, genesis_in, genesis_behind, genesis_of};
 
 use crate::fault::LineFault;
 use crate::parts::{
     closed, i32_within, i64_within, items_part, line_ends, u32_within, u64_within, value_part,
     word_part,
 };
+use crate::scaling::scaling_in;
 use crate::shape::{Shape, each_of};
 use crate::value::value_of;
 use dx_print::Word;
-use dx_types::limits::{FUND_LIMIT, LAST_MOMENT, MOST_MARKETS};
+use dx_types::limits::{FUND_LIMIT, LAST_MOMENT, MOST_MARKETS, QUOTE_DECIMALS};
 use dx_types::{Genesis, List, MarketParams, Params};
 use serde_json::Value;
 use std::alloc::Global;
@@ -38,7 +39,7 @@ fn check_exponent(place: u32, price_exponent: i32, atomic: i32) -> Result<(), Li
     ensures read { Finds result (refuse place (not (is_value_exponent price_exponent atomic))) }
     ensures good { OnOk result (IsFrom (negsuc 17) (pos 6) (price_exponent +ℤ atomic +ℤ pos 6)) }
 {
-    let exponent = price_exponent + atomic + 6;
+    let exponent = price_exponent + atomic + QUOTE_DECIMALS;
     if exponent < -18 {
         return Err(LineFault::Bad { field: place });
     }
@@ -51,7 +52,7 @@ fn check_exponent(place: u32, price_exponent: i32, atomic: i32) -> Result<(), Li
 #[tactic(auto, unfolding(crate::specs::Genesis::market_of))]
 fn market_of(value: &Value, place: u32) -> Result<MarketParams, LineFault>
     ensures read { Finds result (market_of place (view value.now)) }
-    ensures good { IfOk result (λ market. IsMarketParams market) }
+    ensures good { IfOk result (λ market. IsUnscaled market) }
 {
     let atomic = i32_within(value, place, 0, -18, 0)?;
     let conversion = i32_within(value, place, 1, -12, 0)?;
@@ -76,6 +77,8 @@ fn market_of(value: &Value, place: u32) -> Result<MarketParams, LineFault>
         maintenance,
         impact,
         rate_cap,
+        lower: 0,
+        upper: 0,
     })
 }
 
@@ -102,7 +105,7 @@ fn rates_of(value: &Value, place: u32) -> Result<Rates, LineFault>
 impl Shape for MarketParams {
     ghost reads = { market_of };
 
-    ghost is_good = { IsMarketParams };
+    ghost is_good = { IsUnscaled };
 
     fn of(_alloc: Global, value: &Value, place: u32) -> Result<MarketParams, LineFault> {
         market_of(value, place)
@@ -112,7 +115,7 @@ impl Shape for MarketParams {
 #[tactic(auto, unfolding(crate::specs::Genesis::markets_of), using(crate::proofs::Lists::item_count_view))]
 fn markets_of(alloc: Global, values: &[Value], place: u32) -> Result<List<MarketParams>, LineFault>
     ensures read { Reads result (markets_of place (items_view values.now)) }
-    ensures good { IfOk result (λ markets. All IsMarketParams markets) }
+    ensures good { IfOk result (λ markets. All IsUnscaled markets) }
     ensures few { IfOk result (λ markets. length markets ≤ 32) }
 {
     if values.len() > MOST_MARKETS {
@@ -121,8 +124,8 @@ fn markets_of(alloc: Global, values: &[Value], place: u32) -> Result<List<Market
     each_of(alloc, values, place)
 }
 
-/// The parameters of all markets, from the elements 4 to 6.
-#[tactic(auto, unfolding(crate::specs::Genesis::params_in))]
+/// The parameters of all markets, from the elements 4 to 6, without a scale of margins.
+#[tactic(auto, unfolding(crate::specs::Genesis::params_in), using(crate::proofs::Scales::in_ranges, crate::proofs::Scales::unscaled))]
 fn params_in(alloc: Global, line: &Value) -> Result<Params, LineFault>
     ensures read { Reads result (params_in (view line.now)) }
     ensures good { IfOk result (λ params. IsParams params) }
@@ -138,6 +141,7 @@ fn params_in(alloc: Global, line: &Value) -> Result<Params, LineFault>
         spread_ppm: rates.spread,
         bankruptcy_ppm: rates.bankruptcy,
         markets,
+        scale_from: None,
     })
 }
 
@@ -150,8 +154,8 @@ fn genesis_in(alloc: Global, line: &Value) -> Result<(u32, Genesis), LineFault>
     let nodes = u32_within(line, 1, 1, 1, MOST_NODES)?;
     let time = u32_within(line, 2, 2, 0, LAST_MOMENT)?;
     let insurance = i64_within(line, 3, 3, 0, FUND_LIMIT - 1)?;
-    let params = params_in(alloc, line)?;
-    line_ends(line, 7)?;
+    let params = scaling_in(alloc, line, params_in(alloc, line)?)?;
+    line_ends(line, 8)?;
     let genesis = Genesis {
         time,
         insurance,

@@ -11,6 +11,7 @@
 
 mod behind;
 mod blocks;
+mod changes;
 mod event;
 mod fault;
 mod genesis;
@@ -19,9 +20,11 @@ mod names;
 mod operations;
 mod orders;
 mod parts;
+mod scaling;
 mod shape;
 mod value;
 
+pub use changes::{ChangeWord, change_text, changes_are_read, read_change};
 pub use event::{Event, read_event};
 pub use fault::LineFault;
 pub use genesis::read_genesis;

@@ -15,7 +15,9 @@ pub returns-in-Err-clause-kept : goal.returns-in-Err-clause-kept
 returns-in-Err-clause-kept g c = λ w st. inl (st.1.told, fault_last _ _ w.rows c.args.number c.in-Err.fault c.end_at_line.result c.end_at_line.ensures.said)
 
 pub returns-in-Err-serve-clause-ended : goal.returns-in-Err-serve-clause-ended
-returns-in-Err-serve-clause-ended g c = λ w st next. unserved_ends _ _ _ c.in-Err-serve.fault _ c.end_unserved.result (c.in-Err-serve.ensures.breaks w st.0 st.1).outside c.end_unserved.ensures.said
+returns-in-Err-serve-clause-ended g c = λ w st next.
+    unserved_ends _ _ _ w c.count.result c.args.number c.args.line.now c.in-Ok.event c.in-Err-serve.fault c.end_unserved.result next (node_count c.args.cluster.now w c.count.result st.0 c.count.ensures) c.in-Ok.ensures.read
+    (c.in-Err-serve.ensures.breaks w st.0 st.1) c.end_unserved.ensures.said
 
 pub returns-in-Err-serve-clause-kept : goal.returns-in-Err-serve-clause-kept
 returns-in-Err-serve-clause-kept g c = λ w st.
@@ -28,7 +30,7 @@ returns-in-Err-serve-clause-caused g c = caused_behind _ _ _ _ c.in-Err-serve.fa
 pub returns-in_default-clause-kept : goal.returns-in_default-clause-kept
 returns-in_default-clause-kept g c = λ w st.
     unreplied_stops _ _ _ w c.count.result c.args.number c.args.line.now c.in-Ok.event (node_count c.args.cluster.now w c.count.result st.0 c.count.ensures) c.in-Ok.ensures.read
-    c.serve.new.self c.in-Ok-serve.answer (c.in-Ok-serve.ensures.done w st.0 st.1) (nothing_front _ _)
+    c.serve.new.self c.in-Ok-serve.answer (c.in-Ok-serve.ensures.done w st.0 st.1) (nothing_front _)
 
 pub returns-clause-answered : goal.returns-clause-answered
 returns-clause-answered g c =
@@ -40,7 +42,7 @@ pub returns-clause-ended : goal.returns-clause-ended
 returns-clause-ended g c =
     MatchResult-weaker c.write_text.result c.write_text.ensures.written (λ _ _. tt) (λ s front w st next.
     reply_ends _ _ _ w c.count.result c.args.number c.args.line.now c.as_slice.result.now c.in-Ok.event c.serve.new.self c.in-Ok-serve.answer s next
-    (node_count c.args.cluster.now w c.count.result st.0 c.count.ensures) c.in-Ok.ensures.read (c.in-Ok-serve.ensures.done w st.0 st.1).0 (c.as_slice.ensures ∙ c.in-Ok-reply.ensures) front.0 front.1)
+    (node_count c.args.cluster.now w c.count.result st.0 c.count.ensures) c.in-Ok.ensures.read (c.in-Ok-serve.ensures.done w st.0 st.1) (c.as_slice.ensures ∙ c.in-Ok-reply.ensures) front.0 front.1)
 
 pub returns-clause-kept : goal.returns-clause-kept
 returns-clause-kept g c =

@@ -1,7 +1,7 @@
 use Rattle.std.proofs.Common.{refl, Some}
 use Rattle.dx_cluster.specs.Acts.{commit_slot}
 use Rattle.dx_cluster.proofs.Idling.{committing_idle}
-use Rattle.dx_cluster.proofs.Kept.{with_rows, commit_kept, empty_kept, commit_ended, both_done, stands_done, both_err}
+use Rattle.dx_cluster.proofs.Kept.{with_rows, commit_kept, empty_kept, commit_ended, both_done, stands_done, both_err, on_ok, commit_fits}
 use Rattle.dx_cluster.proofs.Worlds.{idle_at, slot_empty, slot_acted}
 use Rattle.dx_cluster.proofs.cluster.Cluster.commit.Goals as goal
 
@@ -38,3 +38,9 @@ returns-clause-breaks g c =
     both_err c.commit_block.result _ _ _ (λ fault outside either w st h.
     commit_ended c.args.self.now w c.args.node c.args.slot c.in-Some.block.now c.index_mut.result.now (g.K.Keeper.rows c.args.keeper.now) _ fault st c.requires.there c.in-Some.ensures c.index_mut.ensures.value outside either h)
     c.commit_block.ensures.outside c.commit_block.ensures.either
+
+pub returns-clause-fits : goal.returns-clause-fits
+returns-clause-fits g c =
+    on_ok c.commit_block.result _ _ (λ kept w st.
+    commit_fits c.args.self.now w c.args.node c.args.slot c.in-Some.block.now c.index_mut.result.now (g.K.Keeper.rows c.args.keeper.now) _ st c.requires.there c.in-Some.ensures c.index_mut.ensures.value kept)
+    c.commit_block.ensures.kept
