@@ -1,3 +1,5 @@
+//! Why blocks cannot be read back from the rows that a keeper has.
+
 use dx_codec::CodecFault;
 use dx_io::KeepError;
 use thiserror::Error;

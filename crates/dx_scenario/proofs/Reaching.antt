@@ -1,6 +1,6 @@
 -- An event's node is one of the nodes, its slot one of the slots, and the id of a cancel has no flags.
-use Rattle.std.proofs.Common.{◌≡◌, ◌-◌, ◌<◌, ◌≤◌, ℕ, List, Bool, true, false, ◌&&◌, cond, refl, subst, arith}
-use Rattle.std.specs.Prelude.{Result, Ok, Err, IfOk, nat_le, option_and_then}
+use Rattle.std.proofs.Common.{◌≡◌, ◌<◌, ◌≤◌, ℕ, suc, List, Bool, true, false, ◌&&◌, cond, refl, subst}
+use Rattle.std.specs.Prelude.{Result, Ok, Err, IfOk, nat_le, nat_lt, option_and_then}
 use Rattle.std.proofs.lemmas.Bool.{leb-true}
 use Rattle.serde_json.specs.Data.{Data}
 use Rattle.serde_json.specs.Find.{as_number, as_u64}
@@ -12,7 +12,7 @@ use Rattle.dx_types.specs.declared.OrderId.{OrderId}
 use Rattle.dx_scenario.specs.declared.event.Event.{Event}
 use Rattle.dx_scenario.specs.declared.event.Event.TheVariants.{Place, Cancel, CancelAll, Message, Feed, Sweep, Restart, Propose, Handed, Show, Check, Commit, Balance, Spec, Filled, Best, Audit, Digest, Waits, Snap, Resume}
 use Rattle.dx_scenario.specs.declared.fault.LineFault.{LineFault}
-use Rattle.dx_scenario.specs.Parts.{Reads, part, within, nat_part, node_part, slot_part, last_slot, value_part, closed, line_ends, u32_part, line_u32, u64_part, value_of, word_part}
+use Rattle.dx_scenario.specs.Parts.{Reads, part, within, node_within, nat_part, node_part, slot_part, last_slot, value_part, closed, line_ends, u32_part, line_u32, u64_part, value_of, word_part}
 use Rattle.dx_scenario.specs.Names.{subaccount_in, subaccount_part, order_id_part, short_term_id_of, short_term_id_part}
 use Rattle.dx_scenario.specs.Orders.{order_part}
 use Rattle.dx_scenario.specs.Messages.{msg_part}
@@ -41,6 +41,12 @@ within_high low high place n = go (nat_le low n) (nat_le n high) refl where
   go true false e = tt
   go false b e = tt
 
+one_of : (nodes n : ℕ) → IfOk (node_within nodes n) (λ m. m < nodes)
+one_of nodes n = go (nat_lt n nodes) refl where
+  go : (b : Bool) → nat_lt n nodes ≡ b → IfOk {E = ℕ} (cond b (Ok n) (Err 1)) (λ m. m < nodes)
+  go true e = leb-true (suc n) nodes e
+  go false e = tt
+
 part_high : (low high place i : ℕ) (d : Data) → IfOk (nat_part low high place i d) (λ m. m ≤ high)
 part_high low high place i d = any_stage (λ m. m ≤ high) (part (λ v. option_and_then as_u64 (as_number v)) place i d) (within low high place) (within_high low high place)
 
@@ -56,12 +62,9 @@ no_flags place d =
 short_term_there : (place i : ℕ) (d : Data) → IfOk (short_term_id_part place i d) (λ id. id.flags ≡ 0)
 short_term_there place i d = any_stage (λ (id : OrderId). id.flags ≡ 0) (value_part place i d) (short_term_id_of place) (no_flags place)
 
-module _ (nodes : ℕ) (some : 0 < nodes) (d : Data) where
-  below : (node : ℕ) → node ≤ nodes - 1 → node < nodes
-  below node h = omega (arith, h, some)
-
+module _ (nodes : ℕ) (d : Data) where
   node_then : {B : Type 0} (P : B → Type 0) (f : ℕ → Result B ℕ) → ((node : ℕ) → node < nodes → IfOk (f node) P) → IfOk (node_part nodes d >>= f) P
-  node_then P f h = stage_gives P (λ m. m ≤ nodes - 1) (node_part nodes d) f (part_high 0 (nodes - 1) 1 1 d) (λ node k. h node (below node k))
+  node_then P f h = stage_gives P (λ m. m < nodes) (node_part nodes d) f (any_stage (λ m. m < nodes) (u32_part 1 1 d) (node_within nodes) (one_of nodes)) h
 
   lone_there : IfOk (lone_node nodes d) (λ node. node < nodes)
   unfolding lone_node
@@ -130,44 +133,44 @@ module _ (nodes : ℕ) (some : 0 < nodes) (d : Data) where
   slot_then : (f : ℕ → ℕ → Event) → ((node slot : ℕ) → (node < nodes) × (slot ≤ last_slot) → IsOf nodes (f node slot)) → IfOk (node_and_slot nodes d >>= λ r. Ok (f r.0 r.1)) (IsOf nodes)
   slot_then f h = stage_gives (IsOf nodes) (λ (r : ℕ × ℕ). (r.0 < nodes) × (r.1 ≤ last_slot)) (node_and_slot nodes d) (λ r. Ok (f r.0 r.1)) both_there (λ r k. h r.0 r.1 k)
 
-behind_there : (nodes : ℕ) (some : 0 < nodes) (d : Data) (word : Word) → IfOk (event_behind nodes d word) (IsOf nodes)
+behind_there : (nodes : ℕ) (d : Data) (word : Word) → IfOk (event_behind nodes d word) (IsOf nodes)
 unfolding event_behind
-behind_there nodes some d words.Genesis = tt
-behind_there nodes some d words.Place = place_there nodes some d
-behind_there nodes some d words.Cancel = cancel_there nodes some d
-behind_there nodes some d words.CancelAll = account_then nodes some d CancelAll (λ node who h. h)
-behind_there nodes some d words.Message = message_there nodes some d
-behind_there nodes some d words.Feed = feed_there nodes some d
-behind_there nodes some d words.Sweep = account_then nodes some d Sweep (λ node who h. h)
-behind_there nodes some d words.Propose = propose_there nodes some d
-behind_there nodes some d words.Block = handed_there nodes some d
-behind_there nodes some d words.Show = show_there nodes some d
-behind_there nodes some d words.Check = slot_then nodes some d Check (λ node slot h. h)
-behind_there nodes some d words.Commit = slot_then nodes some d Commit (λ node slot h. h)
-behind_there nodes some d words.Balance = account_then nodes some d Balance (λ node who h. h)
-behind_there nodes some d words.Spec = account_then nodes some d Spec (λ node who h. h)
-behind_there nodes some d words.Filled = id_then nodes some d Filled (λ node id h. h)
-behind_there nodes some d words.Best = best_there nodes some d
-behind_there nodes some d words.Audit = lone_then nodes some d Audit (λ node h. h)
-behind_there nodes some d words.Digest = lone_then nodes some d Digest (λ node h. h)
-behind_there nodes some d words.Restart = lone_then nodes some d Restart (λ node h. h)
-behind_there nodes some d words.Waits = id_then nodes some d Waits (λ node id h. h)
-behind_there nodes some d words.Snap = lone_then nodes some d Snap (λ node h. h)
-behind_there nodes some d words.Resume = resume_there nodes some d
+behind_there nodes d words.Genesis = tt
+behind_there nodes d words.Place = place_there nodes d
+behind_there nodes d words.Cancel = cancel_there nodes d
+behind_there nodes d words.CancelAll = account_then nodes d CancelAll (λ node who h. h)
+behind_there nodes d words.Message = message_there nodes d
+behind_there nodes d words.Feed = feed_there nodes d
+behind_there nodes d words.Sweep = account_then nodes d Sweep (λ node who h. h)
+behind_there nodes d words.Propose = propose_there nodes d
+behind_there nodes d words.Block = handed_there nodes d
+behind_there nodes d words.Show = show_there nodes d
+behind_there nodes d words.Check = slot_then nodes d Check (λ node slot h. h)
+behind_there nodes d words.Commit = slot_then nodes d Commit (λ node slot h. h)
+behind_there nodes d words.Balance = account_then nodes d Balance (λ node who h. h)
+behind_there nodes d words.Spec = account_then nodes d Spec (λ node who h. h)
+behind_there nodes d words.Filled = id_then nodes d Filled (λ node id h. h)
+behind_there nodes d words.Best = best_there nodes d
+behind_there nodes d words.Audit = lone_then nodes d Audit (λ node h. h)
+behind_there nodes d words.Digest = lone_then nodes d Digest (λ node h. h)
+behind_there nodes d words.Restart = lone_then nodes d Restart (λ node h. h)
+behind_there nodes d words.Waits = id_then nodes d Waits (λ node id h. h)
+behind_there nodes d words.Snap = lone_then nodes d Snap (λ node h. h)
+behind_there nodes d words.Resume = resume_there nodes d
 
 -- the event of a line
-pub event_there : (nodes : ℕ) (line : List ℕ) → 0 < nodes → IfOk (event_of nodes line) (IsOf nodes)
-event_there nodes line some = any_stage (IsOf nodes) (value_of line) _ (λ d. any_stage (IsOf nodes) (word_part d) _ (behind_there nodes some d))
+pub event_there : (nodes : ℕ) (line : List ℕ) → IfOk (event_of nodes line) (IsOf nodes)
+event_there nodes line = any_stage (IsOf nodes) (value_of line) _ (λ d. any_stage (IsOf nodes) (word_part d) _ (behind_there nodes d))
 
 -- what a reading gives is so
 read_so : (P : Event → Type 0) (r : Result Event ℕ) (x : Event) → r ≡ Ok x → IfOk r P → P x
 read_so P r x e h = subst (λ (s : Result Event ℕ). IfOk s P) e h
 
 -- an event that a line says
-pub read_there : (nodes : ℕ) (line : List ℕ) (event : Event) → 0 < nodes → event_of nodes line ≡ Ok event → IsOf nodes event
-read_there nodes line event some e = read_so (IsOf nodes) (event_of nodes line) event e (event_there nodes line some)
+pub read_there : (nodes : ℕ) (line : List ℕ) (event : Event) → event_of nodes line ≡ Ok event → IsOf nodes event
+read_there nodes line event e = read_so (IsOf nodes) (event_of nodes line) event e (event_there nodes line)
 
 -- an event that was read behind its word
-pub behind_read : (nodes : ℕ) (d : Data) (word : Word) (result : Result Event LineFault) → 0 < nodes → Reads result (event_behind nodes d word) → IfOk result (IsOf nodes)
-behind_read nodes d word (Ok event) some e = read_so (IsOf nodes) (event_behind nodes d word) event e (behind_there nodes some d word)
-behind_read nodes d word (Err fault) some e = tt
+pub behind_read : (nodes : ℕ) (d : Data) (word : Word) (result : Result Event LineFault) → Reads result (event_behind nodes d word) → IfOk result (IsOf nodes)
+behind_read nodes d word (Ok event) e = read_so (IsOf nodes) (event_behind nodes d word) event e (behind_there nodes d word)
+behind_read nodes d word (Err fault) e = tt

@@ -1,4 +1,5 @@
-ghost use Rattle.std.specs.Prelude.{◌<◌};
+//! What stands behind the word of a line, by the word: the parts of an event in their order.
+
 ghost use Rattle.serde_json.specs.View.{view};
 ghost use Rattle.dx_scenario.specs.Parts.{Finds, Reads};
 ghost use Rattle.dx_scenario.specs.Behind.{lone_node, node_and_account, node_and_slot, place_event, cancel_event, message_event, feed_event, propose_event, handed_event, show_event, node_and_id, best_event, resume_event};
@@ -17,7 +18,6 @@ use std::alloc::Global;
 /// What stands behind `audit`, `digest`, `restart` and `snap`: node.
 #[tactic(auto, unfolding(crate::specs::Behind::lone_node))]
 pub fn lone_node(line: &Value, nodes: u32) -> Result<u32, LineFault>
-    requires { 0 < nodes }
     ensures { Finds result (lone_node nodes (view line.now)) }
 {
     let node = node_part(line, nodes)?;
@@ -28,7 +28,6 @@ pub fn lone_node(line: &Value, nodes: u32) -> Result<u32, LineFault>
 /// What stands behind `cancelall`, `sweep`, `balance` and `spec`: node and account.
 #[tactic(auto, unfolding(crate::specs::Behind::node_and_account))]
 pub fn node_and_account(line: &Value, nodes: u32) -> Result<(u32, SubaccountId), LineFault>
-    requires { 0 < nodes }
     ensures { Finds result (node_and_account nodes (view line.now)) }
 {
     let node = node_part(line, nodes)?;
@@ -40,7 +39,6 @@ pub fn node_and_account(line: &Value, nodes: u32) -> Result<(u32, SubaccountId),
 /// What stands behind `check` and `commit`: node and slot.
 #[tactic(auto, unfolding(crate::specs::Behind::node_and_slot))]
 pub fn node_and_slot(line: &Value, nodes: u32) -> Result<(u32, u32), LineFault>
-    requires { 0 < nodes }
     ensures { Finds result (node_and_slot nodes (view line.now)) }
 {
     let node = node_part(line, nodes)?;
@@ -52,7 +50,6 @@ pub fn node_and_slot(line: &Value, nodes: u32) -> Result<(u32, u32), LineFault>
 /// What stands behind `place`: node and order.
 #[tactic(auto, unfolding(crate::specs::Behind::place_event))]
 pub fn place_event(line: &Value, nodes: u32) -> Result<Event, LineFault>
-    requires { 0 < nodes }
     ensures { Finds result (place_event nodes (view line.now)) }
 {
     let node = node_part(line, nodes)?;
@@ -64,7 +61,6 @@ pub fn place_event(line: &Value, nodes: u32) -> Result<Event, LineFault>
 /// What stands behind `cancel`: node, a short-term order's id without its flags, and until.
 #[tactic(auto, unfolding(crate::specs::Behind::cancel_event))]
 pub fn cancel_event(line: &Value, nodes: u32) -> Result<Event, LineFault>
-    requires { 0 < nodes }
     ensures { Finds result (cancel_event nodes (view line.now)) }
 {
     let node = node_part(line, nodes)?;
@@ -77,7 +73,6 @@ pub fn cancel_event(line: &Value, nodes: u32) -> Result<Event, LineFault>
 /// What stands behind `message`: node and message.
 #[tactic(auto, unfolding(crate::specs::Behind::message_event))]
 pub fn message_event(line: &Value, nodes: u32) -> Result<Event, LineFault>
-    requires { 0 < nodes }
     ensures { Finds result (message_event nodes (view line.now)) }
 {
     let node = node_part(line, nodes)?;
@@ -89,7 +84,6 @@ pub fn message_event(line: &Value, nodes: u32) -> Result<Event, LineFault>
 /// What stands behind `feed`: node, market and price.
 #[tactic(auto, unfolding(crate::specs::Behind::feed_event))]
 pub fn feed_event(line: &Value, nodes: u32) -> Result<Event, LineFault>
-    requires { 0 < nodes }
     ensures { Finds result (feed_event nodes (view line.now)) }
 {
     let node = node_part(line, nodes)?;
@@ -106,7 +100,6 @@ pub fn feed_event(line: &Value, nodes: u32) -> Result<Event, LineFault>
 /// What stands behind `propose`: node, slot and time.
 #[tactic(auto, unfolding(crate::specs::Behind::propose_event))]
 pub fn propose_event(line: &Value, nodes: u32) -> Result<Event, LineFault>
-    requires { 0 < nodes }
     ensures { Finds result (propose_event nodes (view line.now)) }
 {
     let node = node_part(line, nodes)?;
@@ -140,7 +133,6 @@ pub fn show_event(line: &Value) -> Result<Event, LineFault>
 /// What stands behind `filled` and `waits`: node and order id.
 #[tactic(auto, unfolding(crate::specs::Behind::node_and_id))]
 pub fn node_and_id(line: &Value, nodes: u32) -> Result<(u32, OrderId), LineFault>
-    requires { 0 < nodes }
     ensures { Finds result (node_and_id nodes (view line.now)) }
 {
     let node = node_part(line, nodes)?;
@@ -152,7 +144,6 @@ pub fn node_and_id(line: &Value, nodes: u32) -> Result<(u32, OrderId), LineFault
 /// What stands behind `best`: node and market.
 #[tactic(auto, unfolding(crate::specs::Behind::best_event))]
 pub fn best_event(line: &Value, nodes: u32) -> Result<Event, LineFault>
-    requires { 0 < nodes }
     ensures { Finds result (best_event nodes (view line.now)) }
 {
     let node = node_part(line, nodes)?;
@@ -164,7 +155,6 @@ pub fn best_event(line: &Value, nodes: u32) -> Result<Event, LineFault>
 /// What stands behind `resume`: node and height.
 #[tactic(auto, unfolding(crate::specs::Behind::resume_event))]
 pub fn resume_event(line: &Value, nodes: u32) -> Result<Event, LineFault>
-    requires { 0 < nodes }
     ensures { Finds result (resume_event nodes (view line.now)) }
 {
     let node = node_part(line, nodes)?;

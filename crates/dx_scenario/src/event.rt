@@ -1,3 +1,5 @@
+//! The event of a line: its word says which, and its parts are read from the left.
+
 ghost use Rattle.std.specs.Prelude.{◌≡◌, ◌<◌, IfOk};
 ghost use Rattle.serde_json.specs.View.{view};
 ghost use Rattle.dx_scenario.specs.Parts.{Reads};
@@ -197,7 +199,6 @@ impl Event {
 
 #[tactic(auto, unfolding(crate::specs::Events::event_behind))]
 fn event_behind(alloc: Global, line: &Value, nodes: u32, word: Word) -> Result<Event, LineFault>
-    requires { 0 < nodes }
     ensures { Reads result (event_behind nodes (view line.now) word) }
 {
     match word {
@@ -235,7 +236,6 @@ fn event_behind(alloc: Global, line: &Value, nodes: u32, word: Word) -> Result<E
 /// `Bad` is exactly where the line is no event. The event's node is one of the nodes, its slot one of the
 /// slots, and the id of a cancel has the flags 0.
 pub fn read_event(alloc: Global, line: &[u8], nodes: u32) -> Result<Event, LineFault>
-    requires { 0 < nodes }
     ensures read { Reads result (event_of nodes line.now) }
     ensures of { IfOk result (λ event. IsOf nodes event) }
 {

@@ -1,3 +1,5 @@
+//! The first line of a scenario: its genesis and how many nodes it has.
+
 ghost use Rattle.std.specs.Prelude.{◌≡◌, ◌<◌, ◌≤◌, pos, negsuc, ◌+ℤ◌, ◌≤ℤ◌, not, IfOk, OnOk, All, length};
 ghost use Rattle.serde_json.specs.View.{view, items_view};
 ghost use Rattle.dx_spec.specs.Step.{refuse};
