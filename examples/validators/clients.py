@@ -1,0 +1,55 @@
+"""A generated flow of orders and messages, to try validators with."""
+import random
+
+
+class Clients:
+    """A generated flow of what clients, and the validators' own daemons, hand in."""
+
+    OWNERS = range(1, 9)
+
+    def __init__(self, seed, genesis):
+        self.random = random.Random(seed)
+        self.markets = genesis[6]
+        self.prices = [market[5] for market in self.markets]
+
+    def opening(self, height):
+        """Deposits, by which money comes in. Equal messages count as one, so each has the height in it."""
+        return [["message", [1, [owner, 0], 10_000_000_000 + height]] for owner in self.OWNERS]
+
+    def order(self, height, number, flags=0):
+        """An order near the market's price; no two of a run have one client number."""
+        draw, market = self.random.randrange, self.random.randrange(len(self.markets))
+        atomic, conversion, step, tick, exponent = self.markets[market][:5]
+        power = exponent + 6 + atomic - conversion
+        middle = self.prices[market] * 10 ** max(power, 0) // 10 ** max(-power, 0)
+        subticks = max(1, middle * draw(9_980, 10_021) // 10_000 // tick) * tick
+        until = 4_000_000_000 if flags else height + draw(2, 12)
+        kind = 0 if flags else self.random.choice([0, 0, 0, 0, 1, 2, 3])
+        name = [self.random.choice(self.OWNERS), 0, (height * 1_000 + number) % 2**32, flags, market]
+        return [*name, draw(2), step * draw(1, 21), subticks, until, kind]
+
+    def orders(self, height, count):
+        """Some orders for the block of a height, each tenth of them a stateful one."""
+        for number in range(count):
+            if number % 10 < 9:
+                yield ["place", self.order(height, number)]
+            elif number % 20 < 10:
+                yield ["message", [4, self.order(height, number, 64)]]
+            else:
+                order = self.order(height, number, 32)
+                yield ["message", [6, order, self.random.randrange(2), self.prices[order[4]]]]
+
+    def others(self, height):
+        """A payment and a cancel for the block of a height."""
+        paying, paid = self.random.sample(self.OWNERS, 2)
+        yield ["message", self.random.choice([[2, [paying, 0], height], [3, [paying, 0], [paid, 0], height]])]
+        name = [self.random.choice(self.OWNERS), 0, (height - 1) * 1_000 + self.random.randrange(9)]
+        yield ["cancel", [*name, self.random.randrange(len(self.markets))], height + 5]
+
+    def daemons(self, height):
+        """What each validator hears by itself: a new price, and now and then to look at an account's margin."""
+        if self.markets and height % 5 == 0:
+            market = self.random.randrange(len(self.markets))
+            self.prices[market] = max(1, self.prices[market] * self.random.randrange(9_950, 10_051) // 10_000)
+            yield ["feed", market, self.prices[market]]
+            yield ["sweep", [self.random.choice(self.OWNERS), 0]]
