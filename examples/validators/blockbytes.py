@@ -111,7 +111,7 @@ def table_block(document):
 
 
 def shown_blocks(examples):
-    """The blocks that the examples hand in, each with the bytes that a later `show` of its slot answers, if one does."""
+    """The blocks that the examples hand in, each with the bytes that a `show` of its slot answers, if one does."""
     for scenario in sorted(examples.glob("*.jsonl")):
         replies = scenario.with_suffix(".replies").read_text().splitlines()
         slots, handed_in = {}, []
@@ -134,7 +134,8 @@ def self_test():
     low, high = [0] * 5, [2**32 - 1] * 5
     orders = [[*low, 0, 0, 0, 0, 0], [*high, 1, 2**64 - 1, 2**64 - 1, 2**32 - 1, 2]]
     fills, offsets = [[low, 0], [high, 2**64 - 1]], [[[0, 1], 5], [[2**32 - 1, 0], 2**64 - 1]]
-    operations = [[1, orders[0]], [1, orders[1]], [2, low, fills], [3, [7, 8], 9, fills], [4, [7, 8], 9, offsets], [5, high]]
+    closed = [[3, [7, 8], 9, fills], [4, [7, 8], 9, offsets]]
+    operations = [[1, orders[0]], [1, orders[1]], [2, low, fills], *closed, [5, high]]
     messages = [[1, [1, 2], 3], [2, [1, 2], 3], [3, [1, 2], [3, 4], 5], [4, orders[1]], [5, low]]
     whole = [2**32 - 1, 0, operations, messages, [[0, -(2**31)], [1, 2**31 - 1]], [[0, 2**64 - 1]]]
     reducing = [*low, 1, 1, 1, 1, 3]
@@ -146,13 +147,14 @@ def self_test():
         assert shown is None or shown == written, (block, shown.hex(), written.hex())
         assert all(is_refused(written[:end]) for end in range(len(written))), block
         assert is_refused(written + b"\0") and is_refused(bytes([3 - written[0]]) + written[1:]), block
-    for bad in ([], [1, 1, [], [], []], [2**32, 1, [], [], [], []], [1, 1, [[6, low]], [], [], []], [1, 1, 5, [], [], []], [1, 1, [], [[6, orders[0], -1, 1]], [], []]):
+    bad_parts = [[1, 1, [[6, low]], [], [], []], [1, 1, 5, [], [], []], [1, 1, [], [[6, orders[0], -1, 1]], [], []]]
+    for bad in ([], [1, 1, [], [], []], [2**32, 1, [], [], [], []], *bad_parts):
         try:
             raise AssertionError(bytes_of(bad))
         except Malformed:
             pass
     shows = sum(shown is not None for _, shown in found)
-    print(f"{len(found)} blocks are read as they were written, {shows} of them with the bytes of the document or of a reply")
+    print(f"{len(found)} blocks are read as they were written, {shows} of them as the document or a reply has them")
 
 
 def main():

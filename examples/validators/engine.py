@@ -1,9 +1,7 @@
-"""The log of blocks: etcd, spoken to over the JSON gateway of its members, and a cluster of three of them."""
+"""The log of blocks: etcd, spoken to over the JSON gateway of its members."""
 import base64
 import http.client
 import json
-import shutil
-import subprocess
 import time
 
 FAULTS = (OSError, http.client.HTTPException, ValueError, KeyError, TypeError, AttributeError)
@@ -16,6 +14,11 @@ class Stop(Exception):
 def coded(text):
     """Bytes or a text in base64, as the gateway has them."""
     return base64.b64encode(text.encode() if isinstance(text, str) else text).decode()
+
+
+def span_of(prefix):
+    """All keys that begin so."""
+    return {"key": coded(prefix), "range_end": coded(prefix[:-1] + chr(ord(prefix[-1]) + 1))}
 
 
 class Engine:
@@ -71,16 +74,14 @@ class Engine:
 
     def count(self, prefix):
         """How many keys begin so."""
-        span = {"key": coded(prefix), "range_end": coded(prefix[:-1] + chr(ord(prefix[-1]) + 1))}
-        return int(self.ask("/v3/kv/range", {**span, "count_only": True}).get("count", 0))
+        return int(self.ask("/v3/kv/range", {**span_of(prefix), "count_only": True}).get("count", 0))
 
     def changes(self, prefix, revision):
         """Each key that begins so and its value, as they were set from a revision on, without end."""
-        span = {"key": coded(prefix), "range_end": coded(prefix[:-1] + chr(ord(prefix[-1]) + 1))}
         heard = time.monotonic()
         while True:
             try:
-                start = {"create_request": {**span, "start_revision": str(revision)}}
+                start = {"create_request": {**span_of(prefix), "start_revision": str(revision)}}
                 for line in self.posted("/v3/watch", start, self.patience / 3):
                     result = json.loads(line)["result"]
                     heard = time.monotonic()
@@ -93,52 +94,3 @@ class Engine:
                 raise OSError("the watch ended")
             except FAULTS as error:
                 self.turned_from(error, heard)
-
-
-class Cluster:
-    """Three etcd members on the loopback address, each with a folder of its own. They are ended by a kill, which harms
-    nothing: what a member has answered is on its disk."""
-
-    def __init__(self, folder, port):
-        if not shutil.which("etcd"):
-            raise Stop("etcd is not installed here: apt-get install etcd-server")
-        self.folder, self.processes = folder, [None] * 3
-        self.urls = [f"http://127.0.0.1:{port + 2 * it}" for it in range(3)]
-        self.peers = [f"http://127.0.0.1:{port + 2 * it + 1}" for it in range(3)]
-
-    def __enter__(self):
-        self.folder.mkdir(parents=True, exist_ok=True)
-        for member in range(3):
-            self.start(member)
-        return self
-
-    def __exit__(self, *_):
-        for process in filter(None, self.processes):
-            process.kill()
-            process.wait()
-
-    def start(self, member):
-        """Starts a member over its folder."""
-        words = {
-            "name": f"member{member}",
-            "data-dir": str(self.folder / f"member{member}"),
-            "listen-client-urls": self.urls[member],
-            "advertise-client-urls": self.urls[member],
-            "listen-peer-urls": self.peers[member],
-            "initial-advertise-peer-urls": self.peers[member],
-            "initial-cluster": ",".join(f"member{it}={url}" for it, url in enumerate(self.peers)),
-        }
-        command = ["etcd", *(f"--{name}={value}" for name, value in words.items())]
-        with (self.folder / f"member{member}.log").open("ab") as told:
-            self.processes[member] = subprocess.Popen(command, stdout=told, stderr=told)
-        print(f"engine: member {member}, process {self.processes[member].pid}, at {self.urls[member]}", flush=True)
-
-    def start_killed(self):
-        """Starts each member again that was killed; one that ended by itself ends the run."""
-        for member, process in enumerate(self.processes):
-            if process.poll() is not None and process.returncode >= 0:
-                log = self.folder / f"member{member}.log"
-                raise Stop(f"etcd ended with status {process.returncode}: the end of {log} says why")
-            if process.poll() is not None:
-                print(f"engine: member {member} was killed", flush=True)
-                self.start(member)

@@ -17,7 +17,8 @@ from pathlib import Path
 
 from blockbytes import Malformed, block_of, bytes_of
 from clients import Clients
-from engine import Cluster, Engine, Stop
+from cluster import Cluster
+from engine import Engine, Stop
 
 HERE = Path(__file__).resolve().parent
 PROGRAM = HERE.parent.parent / "crates" / "perpnode" / "out" / "perpnode"
@@ -197,9 +198,8 @@ class Validator(threading.Thread):
 
     def is_new(self, message):
         """Whether a message was neither handed in nor in a block before; it is no more."""
-        key, known = str(message), len(self.seen)
-        self.seen[key] = None
-        is_new = len(self.seen) > known
+        is_new = str(message) not in self.seen
+        self.seen[str(message)] = None
         if len(self.seen) > MOST_SEEN:
             self.seen.popitem(last=False)
         return is_new
@@ -285,7 +285,7 @@ class Run:
         self.tell()
         for validator in self.network:
             self.gather(validator)
-        return self.came_to(time.monotonic() - (self.clock or time.monotonic()) + 1e-9)
+        return self.came_to()
 
     def hand_out(self, height):
         """Hands the clients' events for the next block to one validator each, once the last block is there."""
@@ -323,27 +323,30 @@ class Run:
         for number, validator in enumerate(self.network):
             for height, digest in list(validator.digests.items()):
                 found = self.digests.setdefault(height, {})
-                if number not in found:
-                    found[number] = digest
-                    if len(found) == VALIDATORS:
-                        same = "four equal digests" if len(set(found.values())) == 1 else f"UNEQUAL digests {found}"
-                        print(f"height {height}: {same}, {digest[:16]}..", flush=True)
+                is_last = number not in found and len(found) == VALIDATORS - 1
+                found[number] = digest
+                if is_last:
+                    same = "four equal digests" if len(set(found.values())) == 1 else f"UNEQUAL digests {found}"
+                    print(f"height {height}: {same}, {digest[:16]}..", flush=True)
             if validator.cause and not validator.is_killed and number not in self.causes:
                 self.causes[number] = validator.cause
                 print(f"validator {number}: {validator.cause}", file=sys.stderr, flush=True)
 
-    def came_to(self, seconds):
+    def came_to(self):
         """Writes what the run came to, and gives its status."""
-        blocks = max(1, min(it.height for it in self.network) - self.begun)
-        engine = 1000 * sum(self.spent_in_engine) / max(1, len(self.spent_in_engine))
-        node = 1000 * self.spent_in_node / VALIDATORS / blocks
-        print(f"answers: {', '.join(f'{count} {word}' for word, count in sorted(self.told.items()))}")
-        print(f"{blocks} blocks, {self.orders} orders, {seconds:.1f} s: {blocks / seconds:.1f} blocks a second;", end=" ")
-        print(f"of a block's {1000 * seconds / blocks:.0f} ms {engine:.0f} in the engine and {node:.0f} in perpnode")
-        unequal = [height for height, found in self.digests.items() if len(found) < VALIDATORS or len(set(found.values())) > 1]
+        blocks = min(it.height for it in self.network) - self.begun
+        if blocks > 0:
+            seconds = time.monotonic() - self.clock
+            engine = 1_000 * sum(self.spent_in_engine) / max(1, len(self.spent_in_engine))
+            parts = f"{engine:.0f} in the engine and {1_000 * self.spent_in_node / VALIDATORS / blocks:.0f} in perpnode"
+            print(f"answers: {', '.join(f'{count} {word}' for word, count in sorted(self.told.items()))}")
+            pace = f"{blocks} blocks, {self.orders} orders, {seconds:.1f} s: {blocks / seconds:.1f} blocks a second"
+            print(f"{pace}; of a block's {1_000 * seconds / blocks:.0f} ms {parts}")
+        unequal = [it for it, found in self.digests.items() if len(found) < VALIDATORS or len({*found.values()}) > 1]
         audits = {" ".join(it.audit or ["none"]) for it in self.network}
         if self.causes or unequal or len(audits) > 1:
-            print(f"no agreement: stopped {sorted(self.causes)}, unequal at {unequal}, audits {audits}", file=sys.stderr)
+            cause = f"stopped are validators {sorted(self.causes)}, digests differ at {unequal}, audits are {audits}"
+            print(f"no agreement: {cause}", file=sys.stderr)
             return 1
         print(f"{len(self.digests)} times four equal digests, and four equal audits:\naudit {audits.pop()}")
         return 0
@@ -351,11 +354,10 @@ class Run:
 
 def run(options):
     """Four validators; over three members of an engine that are started here, where no other one is named."""
-    with contextlib.ExitStack() as ended:
-        cluster = None
-        if not options.engine:
-            cluster = ended.enter_context(Cluster(options.folder / "etcd", options.port))
-            options.engine = cluster.urls
+    if options.engine:
+        return Run(options, None).whole()
+    with Cluster(options.folder / "etcd", options.port) as cluster:
+        options.engine = cluster.urls
         return Run(options, cluster).whole()
 
 
@@ -364,37 +366,47 @@ def follow(options):
     validator = Validator(None, options.folder, [], options, options.until)
     validator.run()
     if validator.cause:
-        print(validator.cause, file=sys.stderr)
-        return 1
+        raise Stop(validator.cause)
     print(f"height {validator.height}\naudit {' '.join(validator.audit)}")
     return 0
+
+
+# The words behind `run` and `follow`: of which of the two, the default, and what they say.
+OPTIONS = [
+    ("both", "--program", PROGRAM, "the built perpnode"),
+    ("both", "--genesis", HERE / "genesis.jsonl", "a scenario, of which the first line is read"),
+    ("both", "--patience", 10.0, "seconds to wait for the engine"),
+    ("both", "--lines", 900_000, "lines that a process is given before another one, of 1,000,000 that it reads"),
+    ("run", "--folder", Path("validators"), "where all is kept"),
+    ("run", "--blocks", 50, "how many more blocks"),
+    ("run", "--orders", 750, "how many orders in all of them"),
+    ("run", "--seed", 1, "of the orders"),
+    ("run", "--pace", 0.25, "seconds that a proposer waits for orders"),
+    ("run", "--full", 15, "orders for which it waits no longer"),
+    ("run", "--late", 0.5, "seconds until the next one proposes"),
+    ("run", "--step", 0, "seconds from block to block, where it is not the clock that says"),
+    ("run", "--port", 23_790, "first of six ports for an etcd"),
+    ("follow", "--folder", Path("validators/follower"), "where all is kept"),
+    ("follow", "--until", 4_000_000_000, "the height at which to end"),
+]
 
 
 def options_of(words):
     """What the words ask for."""
     reader = argparse.ArgumentParser(description=__doc__)
     deeds = reader.add_subparsers(dest="deed", required=True)
-    running, following = deeds.add_parser("run", help=run.__doc__), deeds.add_parser("follow", help=follow.__doc__)
-    for deed, folder in ((running, "validators"), (following, "validators/follower")):
-        deed.add_argument("--program", default=PROGRAM, type=Path, help="the built perpnode")
-        deed.add_argument("--folder", default=folder, type=Path, help="where all that is kept stands (%(default)s)")
-        deed.add_argument("--genesis", default=HERE / "genesis.jsonl", type=Path, help="a scenario; its first line is read")
-        deed.add_argument("--engine", type=lambda it: it.split(","), metavar="URL,..", help="members of an etcd that runs")
-        deed.add_argument("--lines", default=900_000, type=int, help="lines to a process; it reads 1,000,000 (%(default)s)")
-        deed.add_argument("--patience", default=10, type=float, help="seconds to wait for the engine (%(default)s)")
-    following.add_argument("--until", type=int, metavar="HEIGHT", help="where to end; for ever where none is given")
-    running.add_argument("--blocks", default=50, type=int, help="how many more blocks (%(default)s)")
-    running.add_argument("--orders", default=750, type=int, help="how many orders in all of them (%(default)s)")
-    running.add_argument("--seed", default=1, type=int, help="of the orders (%(default)s)")
-    running.add_argument("--pace", default=0.25, type=float, help="seconds that a proposer waits for orders (%(default)s)")
-    running.add_argument("--full", default=15, type=int, help="orders for which it waits no longer (%(default)s)")
-    running.add_argument("--late", default=0.5, type=float, help="seconds until the next one proposes (%(default)s)")
-    running.add_argument("--step", default=0, type=int, help="seconds from block to block; 0 takes the clock's time")
-    running.add_argument("--port", default=23790, type=int, help="first of six ports for an etcd (%(default)s)")
+    for deed, meaning in (("run", run.__doc__), ("follow", follow.__doc__)):
+        named = deeds.add_parser(deed, help=meaning, description=meaning)
+        named.add_argument("--engine", type=lambda it: it.split(","), metavar="URL,..", required=deed == "follow")
+        for _, name, default, told in (it for it in OPTIONS if it[0] in ("both", deed)):
+            named.add_argument(name, default=default, type=type(default), help=f"{told} (%(default)s)")
     options = reader.parse_args(words)
+    options.program = options.program.resolve()
+    if not options.program.exists():
+        raise Stop(f"there is no {options.program}: .ci/run builds it, and --program names another one")
     with options.genesis.open() as scenario:
         options.genesis = json.loads(scenario.readline())
-    options.genesis[1], options.program = 1, options.program.resolve()
+    options.genesis[1] = 1
     return options
 
 
@@ -402,7 +414,7 @@ def main():
     signal.signal(signal.SIGTERM, lambda *_: sys.exit(1))
     try:
         options = options_of(sys.argv[1:])
-        return {"run": run, "follow": follow}[options.deed](options)
+        return run(options) if options.deed == "run" else follow(options)
     except (Stop, OSError, ValueError, LookupError, TypeError) as cause:
         print(cause, file=sys.stderr)
         return 1
