@@ -10,7 +10,7 @@ use thiserror::Error;
 #[derive(Clone, Copy, Debug, PartialEq, Eq, Error)]
 pub enum StartFault {
     /// A row of a node is missing, is no block, or is a block that is not good behind those before it.
-    #[error("the kept row of node {node} at height {height} is none of its")]
+    #[error("stored row {height} of node {node} is missing, malformed or invalid")]
     KeptBad {
         /// The first such node.
         node: u32,
@@ -18,7 +18,7 @@ pub enum StartFault {
         height: u32,
     },
     /// The rows of a node are those of another genesis.
-    #[error("the kept rows of node {node} are those of another genesis")]
+    #[error("the stored rows of node {node} belong to another genesis")]
     KeptOther {
         /// The first such node.
         node: u32,
@@ -28,7 +28,7 @@ pub enum StartFault {
         ours: [u8; 32],
     },
     /// A call of the keeper failed. It comes only where the keeper's count of faults rose.
-    #[error("a call of the keeper failed")]
+    #[error("the keeper failed")]
     KeepFault,
     /// There was no memory.
     #[error("out of memory")]

@@ -18,10 +18,12 @@
 //! fails, the node and the rows are as before. A stateful order that rests stands in the state after the queue
 //! ([`resting_stand`]).
 //!
-//! After [`Node::commit`] a list of orders is to be placed again, and after [`Node::restart`] and [`Node::resume`] all
-//! stateful orders:
-//! [`Node::replay_next`] places the first of the list, and [`Node::pending`] tells how many are left. All other calls
-//! but a restart, a resume and the reads are made where none is left.
+//! A node's life: [`Node::new`] makes it, and [`Node::restart`] or [`Node::resume`] starts it from its keeper before it
+//! commits, also if the keeper is empty; else its rows are no chain that a later start takes. After each
+//! [`Node::commit`] a list of orders is to be placed again, and after a start all stateful orders:
+//! [`Node::replay_next`] places the first of the list, and [`Node::pending`] tells how many are left. All other calls,
+//! except a start and the reads, ask that none is left.
+//!
 //! The type keeps (`specs/Held`) that the queue leads to the speculative state, that each order of the book may rest in
 //! it, and that no order of the list rests before it is placed.
 #![tactic(auto)]

@@ -99,7 +99,10 @@ impl Model for Node {
 }
 
 impl Node {
-    /// A node of a number with no blocks, all else empty. `NoMemory` where there is none for its states.
+    /// A node of a number with no blocks, all else empty. `NoMemory` if there is none for its states.
+    ///
+    /// Start it at once by [`Node::restart`] or [`Node::resume`], also if the keeper is empty. A node that commits before
+    /// that writes rows that no start takes: the row at height 1 without one at height 0, or over an older row.
     pub fn new(alloc: Global, g: &Genesis, id: u32) -> Result<Node, NoMemory>
         requires { IsGenesis g.now }
         ensures { IfOk result (λ node. StandsFor node (new_node id g.now)) }
@@ -245,6 +248,9 @@ impl Node {
     /// [`Node::replay_next`]; the queue is emptied, and what may not rest on leaves the book. Cancels that stand no
     /// longer are dropped, for each message of the block the first equal one leaves the pool, and the fed prices stay
     /// ("Block", "After a commit" and "Rows" in docs/RULES.md). All memory is taken before the row is set.
+    ///
+    /// Call it only on a node that was started from this keeper by [`Node::restart`] or [`Node::resume`]; else the rows
+    /// that it leaves are no chain of a genesis.
     ///
     /// `Bad` with the block's first bad part, exactly as [`Node::check`] has it; `KeepFault` only where the keeper's
     /// count of faults rose; `NoMemory` where there is none. The node and the rows are then as before. A good answer
