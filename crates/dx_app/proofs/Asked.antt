@@ -8,11 +8,11 @@ use Rattle.dx_words.specs.declared.words.Job.TheVariants as jobs
 use Rattle.dx_words.specs.declared.words.Words.{Words}
 use Rattle.dx_words.specs.declared.words.WordsFault.{WordsFault}
 use Rattle.dx_words.specs.declared.words.WordsFault.TheVariants as asking
-use Rattle.dx_app.specs.Lines.{rest_of}
+use Rattle.dx_text.specs.Lines.{rest_of}
 use Rattle.dx_app.specs.Transcript.{Told, ended, scenario, generate_told, self_told, job_told, asked_told}
 use Rattle.dx_app.specs.Runs.{Says, AppendsLast, IsRunOf, EndsUnasked}
 use Rattle.dx_app.specs.Causes.{job_asked}
-use Rattle.dx_app.proofs.Outputs.{keeps_front, rest_is_input}
+use Rattle.dx_text.proofs.Outputs.{keeps_front, rest_is_input}
 use Rattle.dx_app.proofs.Runs.{says_at_fault, says_kept}
 use Rattle.dx_app.proofs.Kept.{says_front}
 

@@ -7,8 +7,8 @@ use Rattle.dx_history.specs.Chains.{BadAt, OtherGenesis}
 use Rattle.dx_words.specs.declared.words.Job.{Job}
 use Rattle.dx_words.specs.declared.words.Job.TheVariants as jobs
 use Rattle.dx_words.specs.declared.words.Words.{Words}
-use Rattle.dx_app.specs.Lines.{cut}
-use Rattle.dx_app.specs.Output.{AppendsFront}
+use Rattle.dx_text.specs.Lines.{cut}
+use Rattle.dx_text.specs.Output.{AppendsFront}
 use Rattle.dx_app.specs.Transcript.{Told, line_limit, scenario, job_told, asked_told}
 use Rattle.dx_app.specs.Runs.{is_fault, EndsAs, Says, IsRunOf}
 use Rattle.dx_app.specs.Causes.{faults, IsGoodScenario, IsFirstBad, IsTooLong, IsKeptBad, IsKeptOther, IsReplay, IsOwnRun, HadSurely, ComesExactly, IsWhole}

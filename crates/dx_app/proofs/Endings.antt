@@ -13,7 +13,7 @@ use Rattle.dx_scenario.specs.Events.{event_of}
 use Rattle.dx_print.specs.declared.replies.Reply.{Reply}
 use Rattle.dx_cluster.specs.World.{World, Steps, step}
 use Rattle.dx_cluster.specs.Laws.{after}
-use Rattle.dx_app.specs.Lines.{longest_line}
+use Rattle.dx_text.specs.Lines.{longest_line}
 use Rattle.dx_app.specs.Transcript.{Told, line_limit, unkept_status, or_bad, event_told, line_told, lines_told}
 use Rattle.dx_app.specs.Causes.{wrong_place, fault_of, event_faults, with_event, events_in}
 use Rattle.dx_app.proofs.Nodes.{HasNodes, step_nodes, digest_ours}

@@ -9,11 +9,12 @@ use Rattle.dx_io.specs.Rows.{Rows}
 use Rattle.dx_gen.specs.Texts.{scenario_lines}
 use Rattle.dx_gen.proofs.Counts.{scenario_count}
 use Rattle.dx_streams.specs.Summaries.{summary_text}
-use Rattle.dx_app.specs.Output.{AppendsFront}
+use Rattle.dx_text.specs.Output.{AppendsFront}
 use Rattle.dx_app.specs.OwnRuns.{Writes}
 use Rattle.dx_app.specs.Transcript.{generated, run_digest, self_told, scenario}
-use Rattle.dx_app.specs.Runs.{is_fault, IsInput, EndsAs, IsRunOf}
-use Rattle.dx_app.proofs.Outputs.{appends_nothing, appends_then}
+use Rattle.dx_app.specs.Runs.{is_fault, EndsAs, IsRunOf}
+use Rattle.dx_text.specs.Reading.{IsInput}
+use Rattle.dx_text.proofs.Outputs.{appends_nothing, appends_then}
 
 -- nothing is written yet
 pub writes_first : (o : Option (List ℕ)) (lines : List (List ℕ)) → Writes (concat lines) o o lines

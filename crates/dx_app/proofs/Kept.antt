@@ -15,12 +15,12 @@ use Rattle.dx_cluster.specs.declared.cluster.Cluster.{Cluster}
 use Rattle.dx_cluster.specs.declared.fault.StartFault.{StartFault}
 use Rattle.dx_cluster.specs.declared.fault.StartFault.TheVariants as starts
 use Rattle.dx_cluster.specs.World.{World, Steps, step, world_or, HasStepped, AreEither, Breaks}
-use Rattle.dx_app.specs.declared.lines.Cut.TheVariants.{Line}
-use Rattle.dx_app.specs.Lines.{newline, rest_of, CutsLine}
-use Rattle.dx_app.specs.Output.{AppendsFront}
+use Rattle.dx_text.specs.declared.lines.Cut.TheVariants.{Line}
+use Rattle.dx_text.specs.Lines.{newline, rest_of, CutsLine}
+use Rattle.dx_text.specs.Output.{AppendsFront}
 use Rattle.dx_app.specs.Transcript.{Told, line_limit, told_after, ended, lines_told, rest_told, scenario, lines_alone}
 use Rattle.dx_app.specs.Runs.{is_fault, EndsAs, Says, AppendsLast, Executes, Holds, GoesOn, line_alone, ExecutesLine, StopsAtLine, EndsAtLine, EndsUnserved}
-use Rattle.dx_app.proofs.Outputs.{appends_then, keeps_front, nothing_front, front_more, rest_is_input, read_is_input}
+use Rattle.dx_text.proofs.Outputs.{appends_then, keeps_front, nothing_front, front_more, rest_is_input, read_is_input}
 use Rattle.dx_app.proofs.Nodes.{stepped_world}
 use Rattle.dx_app.proofs.Runs.{lines_at_hand, line_at_hand, line_then, rest_line, nothing_told, event_is}
 

@@ -1,6 +1,4 @@
 pub mod Nodes
-pub mod Outputs
-pub mod Newlines
 pub mod Runs
 pub mod Kept
 pub mod Opening

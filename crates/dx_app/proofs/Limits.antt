@@ -4,7 +4,7 @@ use Rattle.std.proofs.lemmas.List.{length-map}
 use Rattle.std.proofs.lemmas.List.Sums.{sum_by-cons}
 use Rattle.dx_scenario.specs.Genesis.{genesis_of}
 use Rattle.dx_scenario.specs.Events.{event_of}
-use Rattle.dx_app.specs.Lines.{Input, newline, cut, with_byte}
+use Rattle.dx_text.specs.Lines.{Input, newline, cut, with_byte}
 use Rattle.dx_app.specs.Causes.{fault_of, count_of, cut_fault, event_faults, line_faults, faults, FollowsNewlines}
 
 -- one for a newline

@@ -22,13 +22,14 @@ use Rattle.dx_cluster.specs.declared.fault.StartFault.{StartFault}
 use Rattle.dx_cluster.specs.declared.fault.StartFault.TheVariants as starts
 use Rattle.dx_node_spec.specs.Node.{Node}
 use Rattle.dx_cluster.specs.World.{World, node_of, nodes_of, opened, begun_all, Opens, IsBegun, OpenRefused}
-use Rattle.dx_app.specs.declared.lines.Cut.TheVariants.{Line, Broken, End}
-use Rattle.dx_app.specs.Lines.{newline, longest_line, has_newline, cut, AreBroken, rest_of, CutsLine}
-use Rattle.dx_app.specs.Output.{AppendsFront}
+use Rattle.dx_text.specs.declared.lines.Cut.TheVariants.{Line, Broken, End}
+use Rattle.dx_text.specs.Lines.{newline, longest_line, has_newline, cut, AreBroken, rest_of, CutsLine}
+use Rattle.dx_text.specs.Output.{AppendsFront}
 use Rattle.dx_app.specs.Transcript.{Told, told_after, ended, bad_line, or_bad, rest_told, genesis_reply, started_told, genesis_told, genesis_in, scenario_told, scenario, lines_alone}
-use Rattle.dx_app.specs.Runs.{is_fault, IsInput, Says, AppendsLast, IsRunOf, KeepsLines, Holds, GoesOn, EndsAtLine, EndsUnserved, OpensTo}
-use Rattle.dx_app.proofs.Newlines.{cut_line}
-use Rattle.dx_app.proofs.Outputs.{keeps_front, front_more, rest_is_input, read_is_input}
+use Rattle.dx_app.specs.Runs.{is_fault, Says, AppendsLast, IsRunOf, KeepsLines, Holds, GoesOn, EndsAtLine, EndsUnserved, OpensTo}
+use Rattle.dx_text.specs.Reading.{IsInput}
+use Rattle.dx_text.proofs.Newlines.{cut_line}
+use Rattle.dx_text.proofs.Outputs.{keeps_front, front_more, rest_is_input, read_is_input}
 use Rattle.dx_app.proofs.Kept.{unserved_last, alone_is}
 use Rattle.dx_app.proofs.Runs.{says_by_fault, says_at_fault, says_kept, lines_at_hand, line_at_hand, line_then, nothing_at_hand, nothing_told}
 

@@ -12,11 +12,11 @@ use Rattle.dx_scenario.specs.Events.{event_of}
 use Rattle.dx_print.specs.declared.replies.Reply.{Reply}
 use Rattle.dx_print.specs.Replies.{reply_line}
 use Rattle.dx_cluster.specs.declared.cluster.Cluster.{Cluster}
-use Rattle.dx_app.specs.declared.lines.Cut.TheVariants.{Line, Broken, End}
-use Rattle.dx_app.specs.declared.lines.ReadError.{ReadError}
-use Rattle.dx_app.specs.declared.lines.ReadError.TheVariants as errors
-use Rattle.dx_app.specs.Lines.{newline, longest_line, has_newline, cut, with_byte, AreBroken, rest_of, CutsLine, ReadsOn}
-use Rattle.dx_app.specs.Output.{AppendsFront}
+use Rattle.dx_text.specs.declared.lines.Cut.TheVariants.{Line, Broken, End}
+use Rattle.dx_text.specs.declared.lines.ReadError.{ReadError}
+use Rattle.dx_text.specs.declared.lines.ReadError.TheVariants as errors
+use Rattle.dx_text.specs.Lines.{newline, longest_line, has_newline, cut, with_byte, AreBroken, rest_of, CutsLine, ReadsOn}
+use Rattle.dx_text.specs.Output.{AppendsFront}
 use Rattle.dx_cluster.specs.declared.fault.StartFault.{StartFault}
 use Rattle.dx_cluster.specs.declared.fault.StartFault.TheVariants as starts
 use Rattle.dx_cluster.specs.World.{World, Steps, step, HasStepped, Breaks}
@@ -24,9 +24,9 @@ use Rattle.dx_io.specs.Rows.{Rows}
 use Rattle.dx_history.specs.Chains.{BadAt, OtherGenesis}
 use Rattle.dx_app.specs.Transcript.{Told, line_limit, told_after, ended, bad_line, or_bad, digest_at, event_told, line_told, lines_told, rest_told}
 use Rattle.dx_app.specs.Runs.{is_fault, EndsAs, Says, IsRunOf, Holds, GoesOn, IsAnswered, EndsAtLine, EndsUnserved, EndsReading}
-use Rattle.dx_app.proofs.Newlines.{cut_line, rest_at_end}
+use Rattle.dx_text.proofs.Newlines.{cut_line, rest_at_end}
 use Rattle.dx_app.proofs.Nodes.{IsStepped, stepped_world, digest_told}
-use Rattle.dx_app.proofs.Outputs.{appends_nothing, appends_then, keeps_front, nothing_front, front_more, consumes_then, rest_is_input, read_is_input}
+use Rattle.dx_text.proofs.Outputs.{appends_nothing, appends_then, keeps_front, nothing_front, front_more, consumes_then, rest_is_input, read_is_input}
 
 -- a fault ends a run behind a front of what is told
 pub says_by_fault : (before now : Option (List ℕ)) (k : Option Rows) (t : Told) (s : Status) → is_fault s ≡ true → AppendsFront before now t.bytes → Says before now k t s

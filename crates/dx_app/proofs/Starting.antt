@@ -12,7 +12,7 @@ use Rattle.dx_history.specs.Chains.{Unkept, BadAt, OtherGenesis}
 use Rattle.dx_scenario.specs.Genesis.{genesis_of}
 use Rattle.dx_cluster.specs.World.{World, opened}
 use Rattle.dx_cluster.specs.Laws.{after}
-use Rattle.dx_app.specs.Lines.{longest_line}
+use Rattle.dx_text.specs.Lines.{longest_line}
 use Rattle.dx_app.specs.Transcript.{line_limit, unkept_status, or_bad, lines_told, started_told, genesis_told, genesis_in, scenario_told}
 use Rattle.dx_app.specs.Causes.{wrong_place, fault_of, count_of, event_faults, line_faults, events_in, world_behind, AreStarted}
 use Rattle.dx_app.proofs.Nodes.{opened_nodes}

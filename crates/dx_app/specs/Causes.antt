@@ -16,9 +16,10 @@ use Rattle.dx_scenario.specs.Genesis.{genesis_of}
 use Rattle.dx_scenario.specs.Events.{event_of}
 use Rattle.dx_cluster.specs.World.{World, opened}
 use Rattle.dx_cluster.specs.Laws.{after}
-use Rattle.dx_app.specs.Lines.{newline, longest_line, cut}
+use Rattle.dx_text.specs.Lines.{newline, longest_line, cut}
 use Rattle.dx_app.specs.Transcript.{Told, line_limit, genesis_in}
-use Rattle.dx_app.specs.Runs.{is_fault, IsInput, EndsAs}
+use Rattle.dx_app.specs.Runs.{is_fault, EndsAs}
+use Rattle.dx_text.specs.Reading.{IsInput}
 
 -- the place of what is wrong in a reading, if anything is
 abbrev pub wrong_place : {A : Type 0} → Result A ℕ → Option ℕ

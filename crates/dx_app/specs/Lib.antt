@@ -1,5 +1,3 @@
-pub mod Lines
-pub mod Output
 pub mod Transcript
 pub mod Runs
 pub mod Causes

@@ -1,37 +1,10 @@
 -- How far a run reads, and what it has answered by then: each line is answered before the next one is read.
-use Rattle.std.specs.Prelude.{◌≡◌, ℕ, ◌≤◌, List, [], ◌++◌, length, false, Option}
+use Rattle.std.specs.Prelude.{◌≡◌, List, [], ◌++◌, ℕ}
 use Rattle.std.specs.Io.KnownBytes.{Appends, Consumes}
 use Rattle.dx_types.specs.declared.status.Status.TheVariants.{Done}
-use Rattle.dx_app.specs.Lines.{longest_line, has_newline}
+use Rattle.dx_text.specs.Reading.{Known, HasNoNewline, IsNear, ReadsTo}
 use Rattle.dx_io.specs.Rows.{Rows}
 use Rattle.dx_app.specs.Transcript.{Told, lines_alone}
-
--- the bytes of a source or a sink, where it tells them
-abbrev pub Known : Type 0
-Known = Option (List ℕ)
-
--- the most bytes that are read at once
-abbrev pub buffer : ℕ
-buffer = 4096
-
--- none of the bytes is a newline
-abbrev pub HasNoNewline : List ℕ → Type 0
-HasNoNewline bytes = has_newline bytes ≡ false
-
--- the front of a line, and then at most one buffer
-pub record IsNear (bytes : List ℕ) : Type 0 where
-  pub front : List ℕ
-  pub ahead : List ℕ
-  pub joined : bytes ≡ front ++ ahead
-  pub unbroken : HasNoNewline front
-  pub short : length front ≤ longest_line
-  pub few : length ahead ≤ buffer
-
--- bytes are read behind those at hand, and together they are of a kind
-pub record ReadsTo (at_hand : List ℕ) (left_before left : Known) (IsOfKind : List ℕ → Type 0) : Type 0 where
-  pub got : List ℕ
-  pub read : Consumes left_before left got
-  pub kind : IsOfKind (at_hand ++ got)
 
 -- something is written, or nothing
 abbrev pub AppendsSome : Known → Known → Type 0

@@ -1,5 +1,5 @@
 -- What a run has done so far, and how it ended.
-use Rattle.std.specs.Prelude.{◌≡◌, ◌≤◌, ◌⊎◌, ℕ, Bool, true, false, List, [], ◌++◌, Option, Some, None, Ok, ⊤, MatchBool}
+use Rattle.std.specs.Prelude.{◌≡◌, ◌≤◌, ◌⊎◌, ℕ, Bool, true, false, List, [], ◌++◌, Option, Some, Ok, ⊤, MatchBool}
 use Rattle.std.specs.List.{range_with_len}
 use Rattle.std.specs.Io.KnownBytes.{Appends, Keeps, Consumes}
 use Rattle.dx_types.specs.declared.Genesis.{Genesis}
@@ -15,10 +15,11 @@ use Rattle.dx_cluster.specs.declared.cluster.Cluster.{Cluster}
 use Rattle.dx_cluster.specs.declared.fault.StartFault.{StartFault}
 use Rattle.dx_cluster.specs.declared.fault.StartFault.TheVariants as starts
 use Rattle.dx_cluster.specs.World.{World, Stands, KeepsRows, begun_all}
-use Rattle.dx_app.specs.declared.lines.ReadError.{ReadError}
-use Rattle.dx_app.specs.declared.lines.ReadError.TheVariants as errors
-use Rattle.dx_app.specs.Lines.{cut}
-use Rattle.dx_app.specs.Output.{AppendsFront}
+use Rattle.dx_text.specs.declared.lines.ReadError.{ReadError}
+use Rattle.dx_text.specs.declared.lines.ReadError.TheVariants as errors
+use Rattle.dx_text.specs.Lines.{cut}
+use Rattle.dx_text.specs.Output.{AppendsFront}
+use Rattle.dx_text.specs.Reading.{IsInput}
 use Rattle.dx_app.specs.Transcript.{Told, told_after, ended, bad_line, line_told, rest_told, genesis_in, genesis_told, scenario, lines_alone}
 
 -- a fault of the outside, or want of memory
@@ -45,11 +46,6 @@ Says written_before written rows_now told status = MatchBool (is_fault status) (
 -- at most a front of a last line is written
 abbrev pub AppendsLast : Option (List ℕ) → Option (List ℕ) → Type 0
 AppendsLast written_before written = (last : Status) × AppendsFront written_before written (last_line last)
-
--- the input is what the source had left, where it tells that
-abbrev pub IsInput : Option (List ℕ) → List ℕ → Type 0
-IsInput None input = ⊤
-IsInput (Some bytes) input = input ≡ bytes
 
 -- what was written and kept, and how the run ended, is what is told of the input; where the source does not tell what it had left, of some input
 pub record IsRunOf (whole : List ℕ → Told) (left written_before written : Option (List ℕ)) (rows_now : Option Rows) (status : Status) : Type 0 where

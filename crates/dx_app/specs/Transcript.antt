@@ -22,7 +22,7 @@ use Rattle.dx_print.specs.declared.words.Word.TheVariants as words
 use Rattle.dx_print.specs.declared.replies.Reply.{Reply}
 use Rattle.dx_print.specs.Replies.{reply_line}
 use Rattle.dx_print.specs.Statuses.{last_line}
-use Rattle.dx_app.specs.Lines.{longest_line, cut}
+use Rattle.dx_text.specs.Lines.{longest_line, cut}
 use Rattle.dx_cluster.specs.World.{World, begun_all, opened, heights, Steps, step}
 
 -- what is written, the status, and the rows that are kept then

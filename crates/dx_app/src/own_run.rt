@@ -5,11 +5,11 @@ ghost use Rattle.dx_types.specs.declared.status.Status.TheVariants as ends;
 ghost use Rattle.dx_app.specs.Transcript.{Told, run_digest, self_told, generate_told};
 ghost use Rattle.dx_app.specs.Runs.{is_fault, Says};
 
-use crate::output::write_text;
 use crate::program::answer_all;
 use dx_gen::Gen;
 use dx_io::{Sink, SureKeeper};
 use dx_streams::{HashSink, LineSource, summary};
+use dx_text::write_text;
 use dx_types::Status;
 use std::alloc::Global;
 

@@ -1,22 +1,19 @@
-ghost use Rattle.std.specs.Prelude.{◌≡◌, ◌<◌, ◌≤◌, ◌+◌, ◌++◌, ◌⊎◌, MatchResult, OnOk, IfOk, IfErr, Some, length};
-ghost use Rattle.std.specs.Io.KnownBytes.{Appends, IsAtEnd};
-ghost use Rattle.dx_io.specs.Causes.{Rose};
+ghost use Rattle.std.specs.Prelude.{◌≡◌, ◌<◌, ◌≤◌, ◌+◌, ◌++◌, ◌⊎◌, OnOk, IfErr, Some};
+ghost use Rattle.std.specs.Io.KnownBytes.{IsAtEnd};
 ghost use Rattle.dx_io.specs.Rows.{Rows};
 ghost use Rattle.dx_types.specs.declared.status.Status.TheVariants as ends;
-ghost use Rattle.dx_print.specs.Statuses.{last_line};
-ghost use Rattle.dx_app.specs.Output.{AppendsFront};
 ghost use Rattle.dx_cluster.specs.World.{World, StandsForSome};
 ghost use Rattle.dx_app.specs.Transcript.{Told, line_limit, ended, bad_line, line_told, rest_told};
 ghost use Rattle.dx_app.specs.Counts.{Later, Caused, CausedByStreams, CausedBehind, CausedByWrites, CausedByFault};
-ghost use Rattle.dx_app.specs.Prompt.{IsNear, ReadsTo, StopsInLine, AnswersWholeLines, AnswersAllBehind};
+ghost use Rattle.dx_app.specs.Prompt.{StopsInLine, AnswersWholeLines, AnswersAllBehind};
+ghost use Rattle.dx_text.specs.Reading.{IsNear, ReadsTo};
 ghost use Rattle.dx_app.specs.Runs.{Says, AppendsLast, IsRunOf, Executes, Holds, GoesOn, IsAnswered, StopsAtLine, EndsAtLine, EndsUnserved, EndsReading};
 
-use crate::lines::{Cut, LineReader, ReadError};
-use crate::output::write_text;
 use dx_cluster::{Cluster, StartFault};
 use dx_io::{Keeper, Sink, Source};
-use dx_print::{last_line, reply};
+use dx_print::reply;
 use dx_scenario::{LineFault, read_event};
+use dx_text::{Cut, LineReader, ReadError, write_last, write_text};
 use dx_types::Status;
 use std::alloc::Global;
 
@@ -25,20 +22,6 @@ const MOST_LINES: u64 = 1_000_000;
 
 /// The number of the first line that is not read.
 const LINES_END: u64 = MOST_LINES + 1;
-
-/// Writes the last line of a run that ends with this status, or says how it ends in its place.
-pub fn write_last<W: Sink>(alloc: Global, sink: &mut W, status: &Status) -> Result<(), Status>
-    ensures written { MatchResult result (λ _. Appends (W.written sink.old) (W.written sink.new) (last_line status.now))
-        (λ s. AppendsFront (W.written sink.old) (W.written sink.new) (last_line status.now) ×
-        ((s ≡ ends.WriteFault) ⊎ (s ≡ ends.NoMemory))) }
-    ensures later { W.faults sink.old ≤ W.faults sink.new }
-    ensures failed { IfErr result (λ s. s ≡ ends.WriteFault → Rose (W.faults sink.old) (W.faults sink.new)) }
-{
-    let Ok(text) = last_line(alloc, status) else {
-        return Err(Status::NoMemory);
-    };
-    write_text(sink, text.as_slice())
-}
 
 /// Writes that a line is bad, and ends the run.
 pub fn end_badly<W: Sink>(alloc: Global, sink: &mut W, line: u64, field: u32) -> Status

@@ -1,6 +1,6 @@
 use Rattle.std.proofs.Common.{◌≡◌, ◌∷◌, Some, length, ap, subst, arith, rules}
 use Rattle.std.specs.Io.KnownBytes.{Appends}
-use Rattle.dx_app.specs.Output.{AppendsFront}
+use Rattle.dx_text.specs.Output.{AppendsFront}
 use Rattle.dx_app.specs.Transcript.{generated, generate_told}
 use Rattle.dx_app.proofs.Generated.{writes_more, writes_part}
 use Rattle.dx_app.proofs.Runs.{says_at_fault}

@@ -2,7 +2,7 @@ use Rattle.std.proofs.Common.{◌∙◌, inl, ap, Err}
 use Rattle.std.proofs.lemmas.Result.{MatchResult-weaker}
 use Rattle.dx_cluster.proofs.Worlds.{node_count}
 use Rattle.dx_app.proofs.Counts.{caused_behind}
-use Rattle.dx_app.proofs.Outputs.{nothing_front}
+use Rattle.dx_text.proofs.Outputs.{nothing_front}
 use Rattle.dx_app.proofs.Kept.{fault_last, unserved_stops, unreplied_stops, reply_stops}
 use Rattle.dx_app.proofs.Runs.{fault_ends, unserved_ends, reply_ends, is_answered}
 use Rattle.dx_app.proofs.replay.answer_line.Goals as goal

@@ -3,7 +3,8 @@ use Rattle.std.proofs.Common.{Some, inl, refl}
 use Rattle.std.specs.FinMap.{empty}
 use Rattle.dx_app.proofs.Runs.{run_at_fault, over_ends, none_over}
 use Rattle.dx_app.proofs.Kept.{says_last, silent_last}
-use Rattle.dx_app.proofs.Prompt.{read_near, failed_near, failed_in_line, stops}
+use Rattle.dx_app.proofs.Prompt.{stops}
+use Rattle.dx_text.proofs.Near.{read_near, failed_near, failed_in_line}
 use Rattle.dx_app.proofs.replay.end_of_lines.Goals as goal
 
 pub returns-in-Err-clause-said : goal.returns-in-Err-clause-said

@@ -1,5 +1,5 @@
 use Rattle.std.proofs.Common.{◌≡◌, arith}
-use Rattle.dx_app.proofs.Outputs.{consumes_nothing}
+use Rattle.dx_text.proofs.Outputs.{consumes_nothing}
 use Rattle.dx_app.proofs.Runs.{run_then, run_kept, goes_on_then, goes_on_first}
 use Rattle.dx_app.proofs.Kept.{executes_then, stops_here}
 use Rattle.dx_app.proofs.Counts.{later_then, later_streams, caused_then, caused_by_streams}

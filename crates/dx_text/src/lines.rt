@@ -1,11 +1,10 @@
-ghost use Rattle.std.specs.Prelude.{◌≡◌, ◌+◌, ◌<◌, ◌≤◌, [], ◌∷◌, ◌++◌, length, take, drop, false, IfOk, OnOk, OnErr, IsErrOf, MatchOption, MatchBool, vec_len};
-ghost use Rattle.std.specs.Bool.{OnTrue, OnFalse};
+ghost use Rattle.std.specs.Prelude.{◌≡◌, ◌+◌, ◌<◌, ◌≤◌, [], ◌∷◌, ◌++◌, length, take, drop, false, IfOk, OnOk, OnErr, IsErrOf, MatchOption, MatchBool};
 ghost use Rattle.std.specs.Io.KnownBytes.{Consumes, Keeps, IsAtEnd};
 ghost use Rattle.dx_io.specs.Causes.{Rose};
-ghost use Rattle.dx_app.specs.Lines.{newline, longest_line, has_newline, CutsLine, ReadsOn, Takes, EndsLine};
-ghost use Rattle.dx_app.specs.Prompt.{buffer, HasNoNewline, IsNear, ReadsTo};
-ghost use Rattle.dx_app.specs.declared.lines.ReadError.TheVariants as errors;
-ghost use Rattle.dx_app.specs.declared.lines.Cut.TheVariants as cuts;
+ghost use Rattle.dx_text.specs.Lines.{newline, has_newline, CutsLine, ReadsOn, Takes, EndsLine};
+ghost use Rattle.dx_text.specs.Reading.{buffer, HasNoNewline, IsNear, ReadsTo};
+ghost use Rattle.dx_text.specs.declared.lines.ReadError.TheVariants as errors;
+ghost use Rattle.dx_text.specs.declared.lines.Cut.TheVariants as cuts;
 
 use dx_io::{Failed, Source};
 use std::alloc::AllocError;
@@ -126,6 +125,7 @@ impl LineReader {
         ensures few { OnOk result (length self.new ≤ buffer) }
         ensures kept { OnErr result (Keeps (S.left source.old) (S.left source.new)) }
         ensures later { S.faults source.old ≤ S.faults source.new }
+        ensures good { OnOk result (S.faults source.new ≡ S.faults source.old) }
         ensures failed { OnErr result (Rose (S.faults source.old) (S.faults source.new)) }
     {
         let count = source.read(&mut self.chunk)?;
@@ -143,6 +143,7 @@ impl LineReader {
         ensures empty { OnErr result (self.old ≡ []) }
         ensures kept { OnErr result (Keeps (S.left source.old) (S.left source.new)) }
         ensures later { S.faults source.old ≤ S.faults source.new }
+        ensures good { OnOk result (S.faults source.new ≡ S.faults source.old) }
         ensures failed { OnErr result (Rose (S.faults source.old) (S.faults source.new)) }
     {
         if self.is_empty() {
@@ -186,6 +187,7 @@ impl LineReader {
         ensures in_line { IsErrOf result ReadError.Failed
             → ReadsTo self.old (S.left source.old) (S.left source.new) HasNoNewline }
         ensures later { S.faults source.old ≤ S.faults source.new }
+        ensures good { OnOk result (S.faults source.new ≡ S.faults source.old) }
         ensures failed { IsErrOf result ReadError.Failed → Rose (S.faults source.old) (S.faults source.new) }
     {
         line.clear();

@@ -2,8 +2,8 @@
 use Rattle.std.specs.Prelude.{◌≡◌, ℕ, ◌<◌, ◌≤◌, ◌==◌, List, [], ◌∷◌, ◌++◌, length, Bool, true, false, if◌then◌else◌, Option, Some, None}
 use Rattle.std.specs.List.{list_any}
 use Rattle.std.specs.Io.KnownBytes.{Consumes}
-use Rattle.dx_app.specs.declared.lines.Cut.{Cut}
-use Rattle.dx_app.specs.declared.lines.Cut.TheVariants.{Line, Broken, End}
+use Rattle.dx_text.specs.declared.lines.Cut.{Cut}
+use Rattle.dx_text.specs.declared.lines.Cut.TheVariants.{Line, Broken, End}
 
 -- the byte that ends a line
 abbrev pub newline : ℕ

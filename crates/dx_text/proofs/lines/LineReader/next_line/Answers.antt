@@ -1,7 +1,7 @@
-use Rattle.std.proofs.Common.{inr, arith}
-use Rattle.dx_app.proofs.Newlines.{cuts_end, cuts_line, cuts_long, cuts_over_long, more_pieces, unbroken_more}
-use Rattle.dx_app.proofs.Prompt.{pieces_near, stopped_near, stopped_in_line, more_near, over_near}
-use Rattle.dx_app.proofs.lines.LineReader.next_line.Goals as goal
+use Rattle.std.proofs.Common.{inr, arith, ◌∙◌}
+use Rattle.dx_text.proofs.Newlines.{cuts_end, cuts_line, cuts_long, cuts_over_long, more_pieces, unbroken_more}
+use Rattle.dx_text.proofs.Near.{pieces_near, stopped_near, stopped_in_line, more_near, over_near}
+use Rattle.dx_text.proofs.lines.LineReader.next_line.Goals as goal
 
 pub returns-then-not-branch-clause-cut : goal.returns-then-not-branch-clause-cut
 returns-then-not-branch-clause-cut g c =
@@ -25,7 +25,7 @@ pieces-preserved g c =
       taken = more_pieces _ _ _ _ _ _ _ _ _ c.pieces.invariant.taken c.in_ok-has_more.ensures.on piece;
       unbroken = unbroken_more _ _ _ _ c.pieces.invariant.unbroken piece;
       near = inr (more_near _ _ _ _ c.pieces.invariant.unbroken (omega arith) c.in_ok-has_more.ensures.few piece);
-      later = omega (arith, c.in_ok-has_more.ensures.later, c.pieces.invariant.later);
+      spared = c.in_ok-has_more.ensures.good ∙ c.pieces.invariant.spared;
     }
 
 pub returns-clause-cut : goal.returns-clause-cut

@@ -2,9 +2,9 @@
 use Rattle.std.proofs.Common.{◌≡◌, ◌+◌, ℕ, List, [], ◌++◌, take, drop, refl, sym, ap, subst, ◌∙◌, append_assoc, append-nil, Option, Some, None}
 use Rattle.std.proofs.Math.Seq.{take-add}
 use Rattle.std.specs.Io.KnownBytes.{Appends, Consumes, Keeps}
-use Rattle.dx_app.specs.Output.{AppendsFront}
-use Rattle.dx_app.specs.Lines.{rest_of}
-use Rattle.dx_app.specs.Runs.{IsInput}
+use Rattle.dx_text.specs.Output.{AppendsFront}
+use Rattle.dx_text.specs.Lines.{rest_of}
+use Rattle.dx_text.specs.Reading.{IsInput}
 
 pub appends_nothing : (before : Option (List ℕ)) → Appends before before []
 appends_nothing None = tt

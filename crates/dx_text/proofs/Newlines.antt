@@ -5,10 +5,10 @@ use Rattle.std.proofs.lemmas.List.{take-append-drop, take_more}
 use Rattle.std.proofs.lemmas.List.Folds.{list_any-append}
 use Rattle.std.proofs.lemmas.Bool.{ne_eqb}
 use Rattle.std.specs.Io.KnownBytes.{Consumes, IsAtEnd}
-use Rattle.dx_app.specs.declared.lines.Cut.{Cut}
-use Rattle.dx_app.specs.declared.lines.Cut.TheVariants.{Line, Broken, End}
-use Rattle.dx_app.specs.Lines.{newline, longest_line, has_newline, with_byte, cut, AreBroken, rest_of, CutsLine, ReadsOn, TakesPieces, TakesToNewline, TakesAll, EndsLine}
-use Rattle.dx_app.proofs.Outputs.{consumes_nothing, consumes_then}
+use Rattle.dx_text.specs.declared.lines.Cut.{Cut}
+use Rattle.dx_text.specs.declared.lines.Cut.TheVariants.{Line, Broken, End}
+use Rattle.dx_text.specs.Lines.{newline, longest_line, has_newline, with_byte, cut, AreBroken, rest_of, CutsLine, ReadsOn, TakesPieces, TakesToNewline, TakesAll, EndsLine}
+use Rattle.dx_text.proofs.Outputs.{consumes_nothing, consumes_then}
 
 pub split_at_newline : (bytes : List ℕ) (i : ℕ) → i < length bytes → get_or bytes i 0 ≡ newline → bytes ≡ take i bytes ++ newline ∷ drop (i + 1) bytes
 split_at_newline bytes i h e =
