@@ -17,9 +17,10 @@ use Rattle.dx_cluster.specs.declared.fault.StartFault.TheVariants as starts
 use Rattle.dx_cluster.specs.World.{World, Steps, step, world_or, HasStepped, AreEither, Breaks}
 use Rattle.dx_text.specs.declared.lines.Cut.TheVariants.{Line}
 use Rattle.dx_text.specs.Lines.{newline, rest_of, CutsLine}
-use Rattle.dx_text.specs.Output.{AppendsFront}
+use Rattle.dx_text.specs.Output.{IsPrefix, AppendsFront}
 use Rattle.dx_app.specs.Transcript.{Told, line_limit, told_after, ended, lines_told, rest_told, scenario, lines_alone}
-use Rattle.dx_app.specs.Runs.{is_fault, EndsAs, Says, AppendsLast, Executes, Holds, GoesOn, line_alone, ExecutesLine, StopsAtLine, EndsAtLine, EndsUnserved}
+use Rattle.dx_app.specs.Runs.{is_fault, EndsAs, Says, AppendsLast, FollowsReplies, Executes, Holds, GoesOn, line_alone, ExecutesLine, StopsAtLine, EndsAtLine, EndsUnserved}
+use Rattle.dx_text.proofs.Newlines.{at_most_one}
 use Rattle.dx_text.proofs.Outputs.{appends_then, keeps_front, nothing_front, front_more, rest_is_input, read_is_input}
 use Rattle.dx_app.proofs.Nodes.{stepped_world}
 use Rattle.dx_app.proofs.Runs.{lines_at_hand, line_at_hand, line_then, rest_line, nothing_told, event_is}
@@ -53,8 +54,24 @@ unserved_last before now rows (starts.KeptOther node theirs ours) s e = says_las
 unserved_last before now rows starts.KeepFault s e = keeps_last before now e.1
 unserved_last before now rows starts.NoMemory s e = keeps_last before now e.1
 
-front_after : (a b c : Option (List ℕ)) (out bytes : List ℕ) → Appends a b out → AppendsFront b c bytes → AppendsFront a c (out ++ bytes)
-front_after a b c out bytes p f = (out ++ f.0, appends_then a b c out f.0 p f.1, (f.2.0, append_assoc out f.0 f.2.0 ∙ ap (λ xs. out ++ xs) f.2.1))
+-- no reply is written whole
+pub front_follows : (before now : Option (List ℕ)) (told : List ℕ) → AppendsFront before now told → FollowsReplies [] told before now
+front_follows before now told f = record { out = f.0; wrote = f.1; whole = (f.0, refl); part = f.2 }
+
+prefix_after : (text front bytes : List ℕ) → IsPrefix front bytes → IsPrefix (text ++ front) (text ++ bytes)
+prefix_after text front bytes p = (p.0, append_assoc text front p.0 ∙ ap (λ xs. text ++ xs) p.1)
+
+-- replies were written before
+follows_after : (a b c : Option (List ℕ)) (text replies told : List ℕ) → Appends a b text → FollowsReplies replies told b c → FollowsReplies (text ++ replies) (text ++ told) a c
+follows_after a b c text replies told p f = record {
+  out = text ++ f.out;
+  wrote = appends_then a b c text f.out p f.wrote;
+  whole = prefix_after text replies f.out f.whole;
+  part = prefix_after text f.out told f.part;
+}
+
+follows_as : (a c : Option (List ℕ)) (x y u v : List ℕ) → x ≡ y → u ≡ v → FollowsReplies x u a c → FollowsReplies y v a c
+follows_as a c x y u v d e f = subst (λ xs. FollowsReplies xs v a c) d (subst (λ xs. FollowsReplies x xs a c) e f)
 
 -- no line is executed any more
 pub stops_here : (w : World) (n : ℕ) (h0 : List ℕ) (left before now : Option (List ℕ)) (k : Option Rows) → k ≡ Some w.rows → AppendsLast before now → Executes (rest_told w n) h0 left before now k
@@ -67,8 +84,13 @@ stops_here w n h0 left before now k e a = (
     joined = refl;
     done = ap (λ (t : Told). t.status) (nothing_told w n);
     keeps = e ∙ ap (λ (t : Told). Some t.rows) (sym (nothing_told w n));
+    answered = [];
+    one = [];
+    split = refl;
+    good = ap (λ (t : Told). t.status) (nothing_told w n);
+    few = omega arith;
     last = a.0;
-    wrote = subst (λ (t : Told). AppendsFront before now (t.bytes ++ last_line a.0)) (sym (nothing_told w n)) a.1;
+    wrote = subst (λ (t : Told). FollowsReplies t.bytes (t.bytes ++ last_line a.0) before now) (sym (nothing_told w n)) (front_follows before now (last_line a.0) a.1);
   },
 )
 
@@ -89,8 +111,15 @@ line_stops h0 h1 line l0 l1 before now r w n k few (inr e) =
         joined = line_at_hand h0 h1 line k.got k.is.0 (rest_of l1) ∙ sym (line_then line (h1 ++ rest_of l1));
         done = ap (λ (t : Told). t.status) alone ∙ e.done;
         keeps = e.keeps ∙ ap (λ (t : Told). Some t.rows) (sym alone);
+        answered = [];
+        one = line ++ newline ∷ [];
+        split = refl;
+        good = ap (λ (t : Told). t.status) (nothing_told w n);
+        few = at_most_one line k.is.1;
         last = ends.Done;
-        wrote = subst (λ (t : Told). AppendsFront before now (t.bytes ++ [])) (sym alone) (front_more before now (line_alone w n line).bytes [] e.wrote);
+        wrote = follows_as before now [] (rest_told w n []).bytes ((line_alone w n line).bytes ++ []) ((rest_told w n (line ++ newline ∷ [])).bytes ++ last_line ends.Done)
+            (ap (λ (t : Told). t.bytes) (sym (nothing_told w n))) (ap (λ (t : Told). t.bytes ++ []) (sym alone))
+            (front_follows before now ((line_alone w n line).bytes ++ []) (front_more before now (line_alone w n line).bytes [] e.wrote));
       },
     )
 
@@ -100,7 +129,8 @@ pub executes_then : (whole : List ℕ → Told) (h0 h1 : List ℕ) (l0 l1 w0 w1 
 executes_then whole h0 h1 l0 l1 w0 w1 w2 k1 k2 c n g y =
     let x = y g.world g.holds in
     let r = x.2 in
-    let told : whole (g.lines ++ r.lines) ≡ told_after g.out (rest_told g.world n r.lines) = sym (g.told r.lines) in (
+    let told : whole (g.lines ++ r.lines) ≡ told_after g.out (rest_told g.world n r.lines) = sym (g.told r.lines) in
+    let first : whole (g.lines ++ r.answered) ≡ told_after g.out (rest_told g.world n r.answered) = sym (g.told r.answered) in (
       g.got ++ x.0,
       read_is_input l0 l1 g.got x.0 g.read x.1,
       record {
@@ -109,9 +139,17 @@ executes_then whole h0 h1 l0 l1 w0 w1 w2 k1 k2 c n g y =
         joined = lines_at_hand h0 h1 g.lines g.got x.0 g.joined ∙ ap (λ xs. g.lines ++ xs) r.joined ∙ sym (append_assoc g.lines r.lines r.others);
         done = ap (λ (t : Told). t.status) told ∙ r.done;
         keeps = r.keeps ∙ ap (λ (t : Told). Some t.rows) (sym told);
+        answered = g.lines ++ r.answered;
+        one = r.one;
+        split = ap (λ xs. g.lines ++ xs) r.split ∙ sym (append_assoc g.lines r.answered r.one);
+        good = ap (λ (t : Told). t.status) first ∙ r.good;
+        few = r.few;
         last = r.last;
-        wrote = subst (λ xs. AppendsFront w0 w2 xs) (sym (append_assoc g.out (rest_told g.world n r.lines).bytes (last_line r.last)) ∙ ap (λ (t : Told). t.bytes ++ last_line r.last) (sym told))
-            (front_after w0 w1 w2 g.out ((rest_told g.world n r.lines).bytes ++ last_line r.last) g.wrote r.wrote);
+        wrote = follows_as w0 w2 (g.out ++ (rest_told g.world n r.answered).bytes) (whole (g.lines ++ r.answered)).bytes
+            (g.out ++ ((rest_told g.world n r.lines).bytes ++ last_line r.last)) ((whole (g.lines ++ r.lines)).bytes ++ last_line r.last)
+            (ap (λ (t : Told). t.bytes) (sym first))
+            (sym (append_assoc g.out (rest_told g.world n r.lines).bytes (last_line r.last)) ∙ ap (λ (t : Told). t.bytes ++ last_line r.last) (sym told))
+            (follows_after w0 w1 w2 g.out (rest_told g.world n r.answered).bytes ((rest_told g.world n r.lines).bytes ++ last_line r.last) g.wrote r.wrote);
       },
     )
 
@@ -123,7 +161,8 @@ alone_is rows (b ∷ lines) e = refl
 pub executes_alone : (rows : Rows) (h0 : List ℕ) (left before now : Option (List ℕ)) (k : Option Rows) → Executes (scenario rows) h0 left before now k → Executes (lines_alone rows) h0 left before now k
 executes_alone rows h0 left before now k x =
     let r = x.2 in
-    let same : lines_alone rows r.lines ≡ scenario rows r.lines = alone_is rows r.lines r.done in (
+    let same : lines_alone rows r.lines ≡ scenario rows r.lines = alone_is rows r.lines r.done in
+    let first : lines_alone rows r.answered ≡ scenario rows r.answered = alone_is rows r.answered r.good in (
       x.0,
       x.1,
       record {
@@ -132,14 +171,38 @@ executes_alone rows h0 left before now k x =
         joined = r.joined;
         done = ap (λ (t : Told). t.status) same ∙ r.done;
         keeps = r.keeps ∙ ap (λ (t : Told). Some t.rows) (sym same);
+        answered = r.answered;
+        one = r.one;
+        split = r.split;
+        good = ap (λ (t : Told). t.status) first ∙ r.good;
+        few = r.few;
         last = r.last;
-        wrote = subst (λ (t : Told). AppendsFront before now (t.bytes ++ last_line r.last)) (sym same) r.wrote;
+        wrote = follows_as before now (scenario rows r.answered).bytes (lines_alone rows r.answered).bytes
+            ((scenario rows r.lines).bytes ++ last_line r.last) ((lines_alone rows r.lines).bytes ++ last_line r.last)
+            (ap (λ (t : Told). t.bytes) (sym first)) (ap (λ (t : Told). t.bytes ++ last_line r.last) (sym same)) r.wrote;
       },
     )
 
 -- no line is executed
 pub executes_none : (rows : Rows) (left before now : Option (List ℕ)) (k : Option Rows) → k ≡ Some rows → AppendsLast before now → Executes (lines_alone rows) [] left before now k
-executes_none rows left before now k e a = (rest_of left, rest_is_input left, record { lines = []; others = rest_of left; joined = refl; done = refl; keeps = e; last = a.0; wrote = a.1 })
+executes_none rows left before now k e a = (
+  rest_of left,
+  rest_is_input left,
+  record {
+    lines = [];
+    others = rest_of left;
+    joined = refl;
+    done = refl;
+    keeps = e;
+    answered = [];
+    one = [];
+    split = refl;
+    good = refl;
+    few = omega arith;
+    last = a.0;
+    wrote = front_follows before now (last_line a.0) a.1;
+  },
+)
 
 module _ (w0 w1 : Option (List ℕ)) (k : Option Rows) (w : World) (nodes n : ℕ) (line : List ℕ) (e : Event) (c : length w.nodes ≡ nodes) (o : event_of nodes line ≡ Ok e) where
   event_alone : (r : World × Reply) → step w e ≡ Ok r → line_alone w n line ≡ told_after (reply_line n r.1) (ended ends.Done r.0.rows)

@@ -26,11 +26,11 @@ use Rattle.dx_text.specs.declared.lines.Cut.TheVariants.{Line, Broken, End}
 use Rattle.dx_text.specs.Lines.{newline, longest_line, has_newline, cut, AreBroken, rest_of, CutsLine}
 use Rattle.dx_text.specs.Output.{AppendsFront}
 use Rattle.dx_app.specs.Transcript.{Told, told_after, ended, bad_line, or_bad, rest_told, genesis_reply, started_told, genesis_told, genesis_in, scenario_told, scenario, lines_alone}
-use Rattle.dx_app.specs.Runs.{is_fault, Says, AppendsLast, IsRunOf, KeepsLines, Holds, GoesOn, EndsAtLine, EndsUnserved, OpensTo}
+use Rattle.dx_app.specs.Runs.{is_fault, Says, AppendsLast, FollowsReplies, IsRunOf, KeepsLines, Holds, GoesOn, EndsAtLine, EndsUnserved, OpensTo}
 use Rattle.dx_text.specs.Reading.{IsInput}
-use Rattle.dx_text.proofs.Newlines.{cut_line}
+use Rattle.dx_text.proofs.Newlines.{cut_line, at_most_one}
 use Rattle.dx_text.proofs.Outputs.{keeps_front, front_more, rest_is_input, read_is_input}
-use Rattle.dx_app.proofs.Kept.{unserved_last, alone_is}
+use Rattle.dx_app.proofs.Kept.{unserved_last, front_follows, alone_is}
 use Rattle.dx_app.proofs.Runs.{says_by_fault, says_at_fault, says_kept, lines_at_hand, line_at_hand, line_then, nothing_at_hand, nothing_told}
 
 genesis_line : (line rest : List ℕ) → has_newline line ≡ false → length line ≤ longest_line → genesis_in (cut (line ++ newline ∷ rest)).lines ≡ genesis_of line
@@ -50,6 +50,7 @@ opens h0 h1 line l0 l1 first none k e = record {
   read = k.read;
   lines = line ++ newline ∷ [];
   joined = ap (λ xs. xs ++ k.got) (sym none) ∙ k.is.0 ∙ sym (line_then line h1);
+  few = at_most_one line k.is.1;
   genesis = λ rest. ap (λ xs. genesis_in (cut xs).lines) (line_then line rest) ∙ genesis_line line rest k.is.1 k.is.2 ∙ e;
   told = λ rows rest. ap (scenario rows) (line_then line rest) ∙ scenario_line rows line rest k.is.1 k.is.2 ∙ ap (λ r. or_bad 1 rows r (λ x. genesis_told x rows (λ w. rest_told w 2 rest))) e;
 }
@@ -201,8 +202,14 @@ module _ (rows : Rows) (first : ℕ × Genesis) (h1 : List ℕ) (l0 l1 w0 w1 : O
         joined = text_is;
         done = ap (λ (t : Told). t.status) alone_told;
         keeps = r ∙ ap (λ (t : Told). Some t.rows) (sym alone_told);
+        answered = [];
+        one = o.lines;
+        split = refl;
+        good = refl;
+        few = o.few;
         last = ends.Done;
-        wrote = subst (λ (t : Told). AppendsFront w0 w1 (t.bytes ++ [])) (sym alone_told) (front_more w0 w1 (reply_line 1 (genesis_reply w) ++ []) [] (front_more w0 w1 (reply_line 1 (genesis_reply w)) [] f));
+        wrote = subst (λ (t : Told). FollowsReplies [] (t.bytes ++ []) w0 w1) (sym alone_told)
+            (front_follows w0 w1 _ (front_more w0 w1 (reply_line 1 (genesis_reply w) ++ []) [] (front_more w0 w1 (reply_line 1 (genesis_reply w)) [] f)));
       },
     )
 

@@ -1,4 +1,4 @@
--- How far a run reads, and what it has answered by then: each line is answered before the next one is read.
+-- How far a run reads, and what it has answered by then: each line is answered before the next one is executed.
 use Rattle.std.specs.Prelude.{◌≡◌, List, [], ◌++◌, ℕ}
 use Rattle.std.specs.Io.KnownBytes.{Appends, Consumes}
 use Rattle.dx_types.specs.declared.status.Status.TheVariants.{Done}

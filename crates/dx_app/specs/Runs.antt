@@ -17,8 +17,8 @@ use Rattle.dx_cluster.specs.declared.fault.StartFault.TheVariants as starts
 use Rattle.dx_cluster.specs.World.{World, Stands, KeepsRows, begun_all}
 use Rattle.dx_text.specs.declared.lines.ReadError.{ReadError}
 use Rattle.dx_text.specs.declared.lines.ReadError.TheVariants as errors
-use Rattle.dx_text.specs.Lines.{cut}
-use Rattle.dx_text.specs.Output.{AppendsFront}
+use Rattle.dx_text.specs.Lines.{cut, newlines_in}
+use Rattle.dx_text.specs.Output.{IsPrefix, AppendsFront}
 use Rattle.dx_text.specs.Reading.{IsInput}
 use Rattle.dx_app.specs.Transcript.{Told, told_after, ended, bad_line, line_told, rest_told, genesis_in, genesis_told, scenario, lines_alone}
 
@@ -53,7 +53,15 @@ pub record IsRunOf (whole : List ℕ → Told) (left written_before written : Op
   pub is : IsInput left input
   pub said : Says written_before written rows_now (whole input) status
 
--- just some lines at the front of a text are executed
+-- these replies are written whole, and then a front of what is told behind them; so no more is written than is told
+pub record FollowsReplies (replies told : List ℕ) (written_before written : Option (List ℕ)) : Type 0 where
+  -- just this is written
+  pub out : List ℕ
+  pub wrote : Appends written_before written out
+  pub whole : IsPrefix replies out
+  pub part : IsPrefix out told
+
+-- just some lines at the front of a text are executed, and all of them but the last one are answered
 pub record ExecutesLines (alone : List ℕ → Told) (text : List ℕ) (written_before written : Option (List ℕ)) (rows_now : Option Rows) : Type 0 where
   -- these lines, and what is not executed
   pub lines : List ℕ
@@ -63,9 +71,16 @@ pub record ExecutesLines (alone : List ℕ → Told) (text : List ℕ) (written_
   pub done : (alone lines).status ≡ Done
   -- just what they put is kept
   pub keeps : rows_now ≡ Some (alone lines).rows
-  -- a front of their replies is written, and then of the last line of a run: so no reply is written to what is not kept
+  -- whole lines at first, and then at most one line
+  pub answered : List ℕ
+  pub one : List ℕ
+  pub split : lines ≡ answered ++ one
+  pub good : (alone answered).status ≡ Done
+  pub few : newlines_in one ≤ 1
+  -- a front of the replies to all of them is written, and then of the last line of a run: so no reply is written to what
+  -- is not kept; and the replies to those at first are written whole: so a reply is written before the next line is executed
   pub last : Status
-  pub wrote : AppendsFront written_before written ((alone lines).bytes ++ last_line last)
+  pub wrote : FollowsReplies (alone answered).bytes ((alone lines).bytes ++ last_line last) written_before written
 
 -- the same of the bytes at hand and an input that the source had left
 abbrev pub Executes : (List ℕ → Told) → List ℕ → Option (List ℕ) → Option (List ℕ) → Option (List ℕ) → Option Rows → Type 0
@@ -159,5 +174,6 @@ pub record OpensTo (first : ℕ × Genesis) (at_hand : List ℕ) (left_before le
   pub read : Consumes left_before left got
   pub lines : List ℕ
   pub joined : got ≡ lines ++ at_hand
+  pub few : newlines_in lines ≤ 1
   pub genesis : (rest : List ℕ) → genesis_in (cut (lines ++ rest)).lines ≡ Ok first
   pub told : (rows : Rows) (rest : List ℕ) → scenario rows (lines ++ rest) ≡ genesis_told first rows (λ w. rest_told w 2 rest)

@@ -155,12 +155,14 @@ pub fn replay_all<S: Source, W: Sink, K: Keeper>(
     ensures done { result ≡ ends.Done → IsAtEnd (S.left source.new) }
 
     // Whatever ends the run, just what the executed lines put is kept, and no reply is written to what is not kept.
+    // Each reply is written before the next line is executed: all executed lines but the last one have their whole
+    // replies in what is written.
     ensures kept { (rows : Rows) → K.rows keeper.old ≡ Some rows → KeepsLines rows (S.left source.old)
         (W.written sink.old) (W.written sink.new) (K.rows keeper.new) }
 
-    // Each line is answered before the next one is read: where a read fails, just the replies to all lines that are whole
-    // in what was taken from the source are written; and whatever ends the run, the source is read no further than
-    // one line whose reply need not be written yet, and at most one buffer.
+    // Replies keep up with the input: where a read fails, just the replies to all lines that are whole in what was taken
+    // from the source are written; and whatever ends the run, the source is read no further than one line whose reply
+    // need not be written yet, and at most one buffer.
     ensures prompt { result ≡ ends.ReadFault → (rows : Rows) → K.rows keeper.old ≡ Some rows
         → RepliesAreOut rows (S.left source.old) (S.left source.new) (W.written sink.old) (W.written sink.new) }
     ensures no_further { (rows : Rows) → K.rows keeper.old ≡ Some rows
@@ -170,11 +172,13 @@ pub fn replay_all<S: Source, W: Sink, K: Keeper>(
     ensures good { (rows : Rows) → K.rows keeper.old ≡ Some rows
         → ComesExactly (S.left source.old) result ends.Done (IsGoodScenario rows) }
     ensures bad_line { (rows : Rows) → K.rows keeper.old ≡ Some rows → (line field : ℕ)
-        → ComesExactly (S.left source.old) result (ends.BadLine line field) (λ input. IsFirstBad rows input line field) }
+        → ComesExactly (S.left source.old) result (ends.BadLine line field)
+        (λ input. IsFirstBad rows input line field) }
     ensures long { (rows : Rows) → K.rows keeper.old ≡ Some rows
         → ComesExactly (S.left source.old) result ends.Long (IsTooLong rows) }
     ensures kept_bad { (rows : Rows) → K.rows keeper.old ≡ Some rows → (node height : ℕ)
-        → ComesExactly (S.left source.old) result (ends.KeptBad node height) (λ input. IsKeptBad rows input node height) }
+        → ComesExactly (S.left source.old) result (ends.KeptBad node height)
+        (λ input. IsKeptBad rows input node height) }
     ensures kept_other { (rows : Rows) → K.rows keeper.old ≡ Some rows → (node : ℕ) (theirs ours : List ℕ)
         → ComesExactly (S.left source.old) result (ends.KeptOther node theirs ours)
         (λ input. IsKeptOther rows input node theirs ours) }
@@ -299,15 +303,17 @@ pub fn run<S: Source, W: Sink, K: Keeper>(
     ensures done { result ≡ ends.Done → AskReplay (map string_bytes words.now) → IsAtEnd (S.left source.new) }
 
     // Whatever ends the run, just what the executed lines put is kept, and no reply is written to what is not kept.
+    // Each reply is written before the next line is executed: all executed lines but the last one have their whole
+    // replies in what is written.
     // Where the words do not ask for the replay of the input, keeper and source are not called.
     ensures kept { AskReplay (map string_bytes words.now) → (rows : Rows) → K.rows keeper.old ≡ Some rows
         → KeepsLines rows (S.left source.old) (W.written sink.old) (W.written sink.new) (K.rows keeper.new) }
     ensures keeper_spared { ¬ AskReplay (map string_bytes words.now) → keeper.new ≡ keeper.old }
     ensures source_spared { ¬ AskReplay (map string_bytes words.now) → source.new ≡ source.old }
 
-    // Each line is answered before the next one is read: where a read fails, just the replies to all lines that are whole
-    // in what was taken from the source are written; and whatever ends the run, the source is read no further than
-    // one line whose reply need not be written yet, and at most one buffer.
+    // Replies keep up with the input: where a read fails, just the replies to all lines that are whole in what was taken
+    // from the source are written; and whatever ends the run, the source is read no further than one line whose reply
+    // need not be written yet, and at most one buffer.
     ensures prompt { result ≡ ends.ReadFault → (rows : Rows) → K.rows keeper.old ≡ Some rows
         → RepliesAreOut rows (S.left source.old) (S.left source.new) (W.written sink.old) (W.written sink.new) }
     ensures no_further { (rows : Rows) → K.rows keeper.old ≡ Some rows
@@ -342,8 +348,8 @@ pub fn run<S: Source, W: Sink, K: Keeper>(
         → HadSurely (S.left source.old) (AskGoodRun (map string_bytes words.now) rows)
         → ¬ Rose (S.faults source.old) (S.faults source.new) → ¬ Rose (W.faults sink.old) (W.faults sink.new)
         → ¬ Rose (K.faults keeper.old) (K.faults keeper.new)
-        → IsWhole (transcript (map string_bytes words.now) rows) (S.left source.old) (W.written sink.old) (W.written sink.new)
-        (K.rows keeper.new) result }
+        → IsWhole (transcript (map string_bytes words.now) rows) (S.left source.old)
+        (W.written sink.old) (W.written sink.new) (K.rows keeper.new) result }
 {
     obey(alloc, words, source, sink, keeper)
 }

@@ -1,5 +1,5 @@
 -- Lists of bytes, and their first newline.
-use Rattle.std.proofs.Common.{◌≡◌, ◌≤◌, ◌<◌, ◌+◌, ◌==◌, ℕ, List, [], ◌∷◌, ◌++◌, take, drop, length, arith, refl, sym, ap, ◌∙◌, true, false, get_or, ◌||◌, add-one, suc, append_assoc, append-nil, Option, Some, None}
+use Rattle.std.proofs.Common.{◌≡◌, ◌≤◌, ◌<◌, ◌+◌, ◌==◌, ℕ, List, [], ◌∷◌, ◌++◌, take, drop, length, arith, refl, sym, ap, subst, ◌∙◌, true, false, cond, get_or, ◌||◌, add-one, suc, append_assoc, append-nil, Option, Some, None}
 use Rattle.std.proofs.Math.Seq.{drop-cons}
 use Rattle.std.proofs.lemmas.List.{take-append-drop, take_more}
 use Rattle.std.proofs.lemmas.List.Folds.{list_any-append}
@@ -7,7 +7,7 @@ use Rattle.std.proofs.lemmas.Bool.{ne_eqb}
 use Rattle.std.specs.Io.KnownBytes.{Consumes, IsAtEnd}
 use Rattle.dx_text.specs.declared.lines.Cut.{Cut}
 use Rattle.dx_text.specs.declared.lines.Cut.TheVariants.{Line, Broken, End}
-use Rattle.dx_text.specs.Lines.{newline, longest_line, has_newline, with_byte, cut, AreBroken, rest_of, CutsLine, ReadsOn, TakesPieces, TakesToNewline, TakesAll, EndsLine}
+use Rattle.dx_text.specs.Lines.{newline, longest_line, has_newline, newlines_in, with_byte, cut, AreBroken, rest_of, CutsLine, ReadsOn, TakesPieces, TakesToNewline, TakesAll, EndsLine}
 use Rattle.dx_text.proofs.Outputs.{consumes_nothing, consumes_then}
 
 pub split_at_newline : (bytes : List ℕ) (i : ℕ) → i < length bytes → get_or bytes i 0 ≡ newline → bytes ≡ take i bytes ++ newline ∷ drop (i + 1) bytes
@@ -24,6 +24,16 @@ first_without b bytes h = elim (b == newline) as (λ t. (t || has_newline bytes)
 
 both_without : (xs ys : List ℕ) → has_newline xs ≡ false → has_newline ys ≡ false → has_newline (xs ++ ys) ≡ false
 both_without xs ys p q = list_any-append (λ b. b == newline) xs ys ∙ rw (p, q) refl
+
+-- a line with its newline has one
+one_newline : (line : List ℕ) → has_newline line ≡ false → newlines_in (line ++ newline ∷ []) ≡ 1
+one_newline [] h = refl
+one_newline (b ∷ line) h =
+    let both = first_without b line h in
+    ap (λ n. cond (b == newline) 1 0 + n) (one_newline line both.1) ∙ ap (λ t. cond t 1 0 + 1) both.0
+
+pub at_most_one : (line : List ℕ) → has_newline line ≡ false → newlines_in (line ++ newline ∷ []) ≤ 1
+at_most_one line h = subst (λ n. n ≤ 1) (sym (one_newline line h)) (omega arith)
 
 -- bytes with no newline are no whole line
 pub cut_tail : (bytes : List ℕ) → has_newline bytes ≡ false → cut bytes ≡ record { lines = []; tail = bytes }

@@ -1,5 +1,5 @@
 -- The lines of an input, and how they are cut off.
-use Rattle.std.specs.Prelude.{◌≡◌, ℕ, ◌<◌, ◌≤◌, ◌==◌, List, [], ◌∷◌, ◌++◌, length, Bool, true, false, if◌then◌else◌, Option, Some, None}
+use Rattle.std.specs.Prelude.{◌≡◌, ℕ, ◌<◌, ◌≤◌, ◌==◌, List, [], ◌∷◌, ◌++◌, length, count_by, Bool, true, false, if◌then◌else◌, Option, Some, None}
 use Rattle.std.specs.List.{list_any}
 use Rattle.std.specs.Io.KnownBytes.{Consumes}
 use Rattle.dx_text.specs.declared.lines.Cut.{Cut}
@@ -16,6 +16,10 @@ longest_line = 1_048_576
 -- a newline is among the bytes
 abbrev pub has_newline : List ℕ → Bool
 has_newline bytes = list_any (λ b. b == newline) bytes
+
+-- how many of the bytes are newlines
+abbrev pub newlines_in : List ℕ → ℕ
+newlines_in bytes = count_by (λ b. b == newline) bytes
 
 -- the lines that end in a newline, each without it, and what follows the last newline
 pub record Input : Type 0 where
