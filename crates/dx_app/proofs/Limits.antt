@@ -4,16 +4,12 @@ use Rattle.std.proofs.lemmas.List.{length-map}
 use Rattle.std.proofs.lemmas.List.Sums.{sum_by-cons}
 use Rattle.dx_scenario.specs.Genesis.{genesis_of}
 use Rattle.dx_scenario.specs.Events.{event_of}
-use Rattle.dx_text.specs.Lines.{Input, newline, cut, with_byte}
+use Rattle.dx_text.specs.Lines.{Input, newline, newlines_in, cut, with_byte}
 use Rattle.dx_app.specs.Causes.{fault_of, count_of, cut_fault, event_faults, line_faults, faults, FollowsNewlines}
 
 -- one for a newline
 abbrev one_at : ℕ → ℕ
 one_at b = cond (b == newline) 1 0
-
--- how many newlines there are
-abbrev newlines_in : List ℕ → ℕ
-newlines_in bytes = count_by (λ b. b == newline) bytes
 
 -- how many lines there are, with the one that has no newline
 abbrev lines_in : List (List ℕ) → List ℕ → ℕ

@@ -3,6 +3,7 @@ use Rattle.std.proofs.Common.{◌≡◌, ◌≤◌, ◌<◌, ◌+◌, ◌==◌, 
 use Rattle.std.proofs.Math.Seq.{drop-cons}
 use Rattle.std.proofs.lemmas.List.{take-append-drop, take_more}
 use Rattle.std.proofs.lemmas.List.Folds.{list_any-append}
+use Rattle.std.proofs.lemmas.List.Sums.{sum_by-cons}
 use Rattle.std.proofs.lemmas.Bool.{ne_eqb}
 use Rattle.std.specs.Io.KnownBytes.{Consumes, IsAtEnd}
 use Rattle.dx_text.specs.declared.lines.Cut.{Cut}
@@ -30,7 +31,7 @@ one_newline : (line : List ℕ) → has_newline line ≡ false → newlines_in (
 one_newline [] h = refl
 one_newline (b ∷ line) h =
     let both = first_without b line h in
-    ap (λ n. cond (b == newline) 1 0 + n) (one_newline line both.1) ∙ ap (λ t. cond t 1 0 + 1) both.0
+    sum_by-cons (λ x. cond (x == newline) 1 0) b (line ++ newline ∷ []) ∙ ap (λ n. cond (b == newline) 1 0 + n) (one_newline line both.1) ∙ ap (λ t. cond t 1 0 + 1) both.0
 
 pub at_most_one : (line : List ℕ) → has_newline line ≡ false → newlines_in (line ++ newline ∷ []) ≤ 1
 at_most_one line h = subst (λ n. n ≤ 1) (sym (one_newline line h)) (omega arith)

@@ -1,4 +1,4 @@
-use Rattle.std.proofs.Common.{◌≡◌, ◌≤◌, ◌-◌, ◌⊎◌, [], ◌++◌, vec_len, false}
+use Rattle.std.proofs.Common.{◌≡◌, ◌-◌, ◌⊎◌, [], ◌++◌, vec_len, false}
 use Rattle.dx_text.specs.Lines.{has_newline, TakesPieces}
 use Rattle.dx_text.specs.Reading.{IsNear}
 use Rattle.dx_text.proofs.lines.LineReader.next_line.Given as goal
