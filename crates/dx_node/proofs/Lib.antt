@@ -18,3 +18,4 @@ pub mod Restarted
 pub mod Resumed
 pub mod Above
 pub mod Leaving
+pub mod Folded

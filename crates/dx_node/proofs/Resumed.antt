@@ -52,7 +52,7 @@ pub first_unkept : (rows : Option Rows) (g : Genesis) (s : State) (node count : 
 first_unkept rows g s node count ours result digest f r e = f r e g digest (kept_from s r node (s.clock.height + 1) (count - (s.clock.height + 1)))
 
 -- where a row above the state is none of a chain
-pub above_unkept : (rows mid : Option Rows) (g : Genesis) (s : State) (node first count : ℕ) (result : Result (Unit {0}) RestartFault) → SameRows rows mid → first ≡ s.clock.height + 1
+pub above_unkept : {A : Type 0} (rows mid : Option Rows) (g : Genesis) (s : State) (node first count : ℕ) (result : Result A RestartFault) → SameRows rows mid → first ≡ s.clock.height + 1
     → IfSome rows (λ r. first_fault g (get r (place_of node 0)) ≡ None)
     → ((r : Rows) → mid ≡ Some r → (h : Genesis) → IfErr result (IsUnkept h (kept_from s r node first (count - first))))
     → (r : Rows) → rows ≡ Some r → IfErr result (IsUnkept g (chain_above g s r node count))

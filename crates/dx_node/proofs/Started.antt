@@ -217,7 +217,7 @@ first_refused rows g node count ours result some digest f r e n =
     subst (λ (told : Result (List Block) Unkept). IfErr result (IsUnkept g told)) (sym (kept_some g r node count some n)) (f r e g digest (kept_from (genesis_state g) r node 1 (count - 1)))
 
 -- where a row above it is
-pub above_refused : (rows mid : Option Rows) (g : Genesis) (node count : ℕ) (s : State) (result : Result (Unit {0}) RestartFault) → 1 ≤ count → SameRows rows mid → s ≡ genesis_state g
+pub above_refused : {A : Type 0} (rows mid : Option Rows) (g : Genesis) (node count : ℕ) (s : State) (result : Result A RestartFault) → 1 ≤ count → SameRows rows mid → s ≡ genesis_state g
     → IfSome rows (λ r. first_fault g (get r (place_of node 0)) ≡ None)
     → ((r : Rows) → mid ≡ Some r → (h : Genesis) → IfErr result (IsUnkept h (kept_from s r node 1 (count - 1))))
     → (r : Rows) → rows ≡ Some r → count ≡ row_count r node → IfErr result (IsUnkept g (kept g r node))
@@ -269,9 +269,6 @@ pub refused_before : {A : Type 0} (rows mid : Option Rows) (g : Genesis) (node c
     → (r : Rows) → rows ≡ Some r → IfErr result (IsUnkept g (kept g r node))
 refused_before rows mid g node count result same n f r e = f r (same_known rows mid same r e) (counted_at rows node count r e n)
 
--- a good answer behind two calls that only read
-pub read_well : {A B T : Type 0} (a b c : Option Rows) (x y z : ℕ) (first : Result A RestartFault) (second : Result B RestartFault) (answer : T)
-    → OnlyReads a b x y first → OnlyReads b c y z second → OnlyReads {T = T} a c x z (Ok answer)
-read_well a b c x y z first second answer h k =
-    let m = read_on a b c x y z first second h k in
-    record { same = m.same; later = m.later; failed = λ e. absurd (cc) }
+-- a good answer behind a call that only reads
+pub read_same : {A T : Type 0} (a b : Option Rows) (x y : ℕ) (first : Result A RestartFault) (answer : T) → OnlyReads a b x y first → OnlyReads {T = T} a b x y (Ok answer)
+read_same a b x y first answer h = record { same = h.same; later = h.later; failed = λ e. absurd (cc) }

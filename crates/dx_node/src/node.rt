@@ -247,7 +247,8 @@ impl Node {
     /// the block's good messages placed, and those that it triggered, are listed to be placed again by
     /// [`Node::replay_next`]; the queue is emptied, and what may not rest on leaves the book. Cancels that stand no
     /// longer are dropped, for each message of the block the first equal one leaves the pool, and the fed prices stay
-    /// ("Block", "After a commit" and "Rows" in docs/RULES.md). All memory is taken before the row is set.
+    /// ("Block", "After a commit" and "Rows" in docs/RULES.md). The state after the block is balanced and sound. All
+    /// memory is taken before the row is set.
     ///
     /// Call it only on a node that was started from this keeper by [`Node::restart`] or [`Node::resume`]; else the rows
     /// that it leaves are no chain of a genesis.
@@ -263,6 +264,7 @@ impl Node {
         requires idle { self.old.again ≡ [] }
         ensures ok { IfOk result (λ results. (p : PlainNode) → StandsFor self.old p
             → Gives self.new results (committed_with p block.now)) }
+        ensures settled { OnOk result (IsSettled self.new.committed) }
         ensures refused { IfErr result (λ fault. (p : PlainNode) → StandsFor self.old p
             → CommitRefused (committed_with p block.now) fault) }
         ensures same { OnErr result (self.new ≡ self.old) }
@@ -299,7 +301,8 @@ impl Node {
     /// Starts anew from the rows that a keeper has of the node's number: their blocks are the node's, its queue, book,
     /// cancels, pool and fed prices are empty, and the stateful orders of the state after the blocks are listed, by
     /// rising id, to be placed again by [`Node::replay_next`]. Where there are no rows, the digest of the node's
-    /// genesis becomes the row at height 0. The answer is the height of the last block ("Rows" in docs/RULES.md).
+    /// genesis becomes the row at height 0. The answer is the height of the last block ("Rows" in docs/RULES.md). The
+    /// state after the blocks is balanced and sound.
     ///
     /// The rows are read by rising height, each block is folded before the next row is read, and the first that is no
     /// row of a chain ends the call: `KeptOther` exactly where the row at height 0 is 32 bytes other than the digest of
@@ -309,6 +312,7 @@ impl Node {
     pub fn restart<K: Keeper>(&mut self, keeper: &mut K) -> Result<u32, RestartFault>
         ensures ok { IfOk result (λ height. (p : PlainNode) → StandsFor self.old p
             → Restarts (K.rows keeper.old) p self.new height) }
+        ensures settled { OnOk result (IsSettled self.new.committed) }
         ensures refused { IfErr result (λ fault. (p : PlainNode) → StandsFor self.old p
             → RestartRefused (K.rows keeper.old) p fault) }
         ensures same { OnErr result (self.new ≡ self.old) }
@@ -351,7 +355,7 @@ impl Node {
     /// are folded behind the state, and the node's queue, book, cancels, pool and fed prices are empty; the stateful
     /// orders of the state that is reached are listed, by rising id, to be placed again by [`Node::replay_next`]. The
     /// answer is the height that is reached ("Snapshots" in docs/RULES.md). The state is a balanced and sound one of
-    /// the node's genesis, as [`Node::committed_copy`] gives one.
+    /// the node's genesis, as [`Node::committed_copy`] gives one, and so is the one that is reached.
     ///
     /// `Ahead` exactly where the state's height is not below the count of the node's rows. Then the row at height 0 is
     /// compared with the digest of the node's genesis, and the rows above the state are read by rising height, each
@@ -363,6 +367,7 @@ impl Node {
         requires { IsStateOf self.old.committed.genesis s }
         ensures ok { IfOk result (λ height. (p : PlainNode) → StandsFor self.old p
             → Resumes (K.rows keeper.old) p s self.new height) }
+        ensures settled { OnOk result (IsSettled self.new.committed) }
         ensures refused { IfErr result (λ fault. (p : PlainNode) → StandsFor self.old p
             → ResumeRefused (K.rows keeper.old) p s fault) }
         ensures same { OnErr result (self.new ≡ self.old) }

@@ -11,7 +11,7 @@ ghost use Rattle.dx_node.specs.Resumes.{chain_above, resumable, resume_fault, Is
 ghost use Rattle.dx_node.specs.Counts.{RestartLeaves, ResumeLeaves};
 
 use crate::faults::{RestartFault, ResumeFault};
-use crate::restarting::{Start, check_first, fold_rows, start_at};
+use crate::restarting::{Start, check_first, start_behind};
 use dx_codec::genesis_digest;
 use dx_io::Keeper;
 use dx_ledger::Ledger;
@@ -66,12 +66,10 @@ fn go_on_above<K: Keeper>(
     ensures good { KeepsCount (K.faults keeper.old) (K.faults keeper.new) result }
     ensures still { IfErr result (RestartLeaves (K.faults keeper.old) (K.faults keeper.new)) }
 {
-    let mut reached = state;
-    let first = next_height(&reached, count);
-    let ours = genesis_digest(alloc, reached.genesis())?;
+    let first = next_height(&state, count);
+    let ours = genesis_digest(alloc, state.genesis())?;
     check_first(keeper, number, &ours)?;
-    fold_rows(alloc, keeper, number, first, count, &mut reached)?;
-    Ok(start_at(alloc, reached)?)
+    start_behind(alloc, keeper, number, first, count, state)
 }
 
 /// Counts the rows of a node, reads its row at height 0 and those above a state by rising height, and applies their
