@@ -1,4 +1,4 @@
-use Rattle.std.proofs.Common.{◌-◌, IfErr, ap, subst}
+use Rattle.std.proofs.Common.{◌-◌, ap, subst}
 use Rattle.dx_spec.specs.State.{State}
 use Rattle.dx_work.specs.Lines.{present}
 use Rattle.dx_history.specs.Chains.{kept_from}
