@@ -6,6 +6,8 @@ class Clients:
     """A generated flow of what clients, and the validators' own daemons, hand in."""
 
     OWNERS = range(1, 9)
+    # Those who have little money, and so come below their margin when prices move.
+    SMALL = range(6, 9)
 
     def __init__(self, seed, genesis):
         self.random = random.Random(seed)
@@ -14,7 +16,8 @@ class Clients:
 
     def opening(self, height):
         """Deposits, by which money comes in. Equal messages count as one, so each has the height in it."""
-        return [["message", [1, [owner, 0], 10_000_000_000 + height]] for owner in self.OWNERS]
+        amounts = {owner: 100_000_000 if owner in self.SMALL else 10_000_000_000 for owner in self.OWNERS}
+        return [["message", [1, [owner, 0], amount + height]] for owner, amount in amounts.items()]
 
     def order(self, height, number, flags=0):
         """An order near the market's price; no two of a run have one client number."""
@@ -47,9 +50,10 @@ class Clients:
         yield ["cancel", [*name, self.random.randrange(len(self.markets))], height + 5]
 
     def daemons(self, height):
-        """What each validator hears by itself: a new price, and now and then to look at an account's margin."""
+        """What each validator hears by itself: a new price, and when it is in the state, whose margin to look at."""
         if self.markets and height % 5 == 0:
             market = self.random.randrange(len(self.markets))
-            self.prices[market] = max(1, self.prices[market] * self.random.randrange(9_950, 10_051) // 10_000)
+            self.prices[market] = max(1, self.prices[market] * self.random.randrange(9_800, 10_201) // 10_000)
             yield ["feed", market, self.prices[market]]
-            yield ["sweep", [self.random.choice(self.OWNERS), 0]]
+        if height % 5 == 2:
+            yield from (["sweep", [owner, 0]] for owner in self.SMALL)

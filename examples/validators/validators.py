@@ -51,7 +51,7 @@ class Node:
             self.process = subprocess.Popen([program], cwd=folder, **pipes)
         except OSError as error:
             raise Stop(f"perpnode does not start: {error}") from error
-        self.height = int(self.ask(*genesis)[0])
+        self.height, self.spent = int(self.ask(*genesis)[0]), 0.0
 
     def ask(self, word, *elements):
         """The parts of the answer to a line."""
