@@ -7,6 +7,7 @@ pub mod Limits
 pub mod Starting
 pub mod Caused
 pub mod Counts
+pub mod Spared
 pub mod Prompt
 pub mod Generated
 pub mod Asked

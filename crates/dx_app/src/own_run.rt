@@ -4,6 +4,7 @@ ghost use Rattle.dx_io.specs.Rows.{Rows};
 ghost use Rattle.dx_types.specs.declared.status.Status.TheVariants as ends;
 ghost use Rattle.dx_app.specs.Transcript.{Told, run_digest, self_told, generate_told};
 ghost use Rattle.dx_app.specs.Runs.{is_fault, Says};
+ghost use Rattle.dx_app.specs.Counts.{SparedByWrites};
 
 use crate::program::answer_all;
 use dx_gen::Gen;
@@ -35,6 +36,7 @@ fn write_done<W: Sink>(sink: &mut W, text: &[u8]) -> Status
     ensures said { (told : Told) → told.bytes ≡ text.now → told.status ≡ ends.Done
         → Says (W.written sink.old) (W.written sink.new) (Some told.rows) told result }
     ensures failed { result ≡ ends.WriteFault → Rose (W.faults sink.old) (W.faults sink.new) }
+    ensures spared { SparedByWrites (W.faults sink.old) (W.faults sink.new) result }
     ensures no_read { result ≡ ends.ReadFault → ⊥ }
     ensures no_keep { result ≡ ends.KeepFault → ⊥ }
 {
@@ -65,6 +67,7 @@ pub fn self_run<W: Sink>(alloc: Global, seed: u64, events: u32, sink: &mut W) ->
     ensures said { (rows : Rows)
         → Says (W.written sink.old) (W.written sink.new) (Some rows) (self_told seed events rows) result }
     ensures failed { result ≡ ends.WriteFault → Rose (W.faults sink.old) (W.faults sink.new) }
+    ensures spared { SparedByWrites (W.faults sink.old) (W.faults sink.new) result }
     ensures no_read { result ≡ ends.ReadFault → ⊥ }
     ensures no_keep { result ≡ ends.KeepFault → ⊥ }
 {
@@ -82,6 +85,7 @@ pub fn generate<W: Sink>(alloc: Global, seed: u64, events: u32, sink: &mut W) ->
     ensures said { (rows : Rows)
         → Says (W.written sink.old) (W.written sink.new) (Some rows) (generate_told seed events rows) result }
     ensures failed { result ≡ ends.WriteFault → Rose (W.faults sink.old) (W.faults sink.new) }
+    ensures spared { SparedByWrites (W.faults sink.old) (W.faults sink.new) result }
     ensures no_read { result ≡ ends.ReadFault → ⊥ }
     ensures no_keep { result ≡ ends.KeepFault → ⊥ }
 {

@@ -1,4 +1,4 @@
-ghost use Rattle.std.specs.Prelude.{◌≡◌, ◌≤◌, ◌⊎◌, ℕ, List, [], ◌++◌, MatchResult, IfOk, IfErr, None, Some, map, string_bytes};
+ghost use Rattle.std.specs.Prelude.{◌≡◌, ◌≤◌, ◌⊎◌, ℕ, List, [], ◌++◌, false, MatchResult, OnOk, IfOk, IfErr, None, Some, map, string_bytes};
 ghost use Rattle.std.specs.Io.KnownBytes.{Appends, IsAtEnd};
 ghost use Rattle.dx_io.specs.Causes.{Rose};
 ghost use Rattle.dx_io.specs.Rows.{Rows};
@@ -10,8 +10,8 @@ ghost use Rattle.dx_words.specs.Asked.{asked};
 ghost use Rattle.dx_text.specs.Output.{AppendsFront};
 ghost use Rattle.dx_cluster.specs.World.{World, Stands};
 ghost use Rattle.dx_app.specs.Transcript.{ended, genesis_reply, scenario, asked_told, transcript};
-ghost use Rattle.dx_app.specs.Runs.{Says, AppendsLast, IsRunOf, KeepsLines, OpensTo, EndsUnasked};
-ghost use Rattle.dx_app.specs.Counts.{Caused, CausedByStreams, CausedByWrites};
+ghost use Rattle.dx_app.specs.Runs.{is_fault, Says, AppendsLast, IsRunOf, KeepsLines, OpensTo, EndsUnasked};
+ghost use Rattle.dx_app.specs.Counts.{Caused, CausedByStreams, CausedByWrites, Spared, StreamsSpared, SparedByWrites};
 ghost use Rattle.dx_app.specs.Prompt.{StopsInLine, RepliesAreOut, ReadsNoFurther};
 ghost use Rattle.dx_text.specs.Reading.{IsNear, ReadsTo};
 ghost use Rattle.dx_app.specs.Causes.{AskReplay, AskGoodRun, IsGoodScenario, IsFirstBad, IsTooLong, IsKeptBad, IsKeptOther, HadSurely, ComesExactly, IsWhole};
@@ -49,6 +49,10 @@ fn open<S: Source, W: Sink>(
     ensures write_count { W.faults sink.old ≤ W.faults sink.new }
     ensures caused { IfErr result (CausedByStreams (S.faults source.old) (S.faults source.new)
         (W.faults sink.old) (W.faults sink.new)) }
+    ensures quiet { OnOk result (StreamsSpared (S.faults source.old) (S.faults source.new)
+        (W.faults sink.old) (W.faults sink.new)) }
+    ensures spared { IfErr result (λ s. is_fault s ≡ false → StreamsSpared (S.faults source.old) (S.faults source.new)
+        (W.faults sink.old) (W.faults sink.new)) }
     ensures not_done { IfErr result (λ s. s ≡ ends.Done → ⊥) }
 {
     let mut line = Vec::new(alloc);
@@ -75,6 +79,8 @@ fn greet<W: Sink>(alloc: Global, sink: &mut W, cluster: &Cluster) -> Result<(), 
         ((s ≡ ends.WriteFault) ⊎ (s ≡ ends.NoMemory))) }
     ensures later { W.faults sink.old ≤ W.faults sink.new }
     ensures caused { IfErr result (CausedByWrites (W.faults sink.old) (W.faults sink.new)) }
+    ensures quiet { OnOk result (W.faults sink.new ≡ W.faults sink.old) }
+    ensures fails { IfErr result (λ s. (s ≡ ends.WriteFault) ⊎ (s ≡ ends.NoMemory)) }
 {
     let Ok(answer) = cluster.heights() else {
         return Err(Status::NoMemory);
@@ -107,6 +113,8 @@ pub(crate) fn answer_all<S: Source, W: Sink, K: Keeper>(
         → ReadsNoFurther rows (S.left source.old) (S.left source.new) (W.written sink.old) (W.written sink.new) }
     ensures caused { Caused (S.faults source.old) (S.faults source.new) (W.faults sink.old) (W.faults sink.new)
         (K.faults keeper.old) (K.faults keeper.new) result }
+    ensures spared { is_fault result ≡ false → Spared (S.faults source.old) (S.faults source.new)
+        (W.faults sink.old) (W.faults sink.new) (K.faults keeper.old) (K.faults keeper.new) }
 {
     let mut reader = LineReader::new();
     let (count, genesis) = match open(alloc, &mut reader, source, sink) {
@@ -189,6 +197,10 @@ pub fn replay_all<S: Source, W: Sink, K: Keeper>(
     ensures write_fault { result ≡ ends.WriteFault → Rose (W.faults sink.old) (W.faults sink.new) }
     ensures keep_fault { result ≡ ends.KeepFault → Rose (K.faults keeper.old) (K.faults keeper.new) }
 
+    // A fault ends the run: where it ends by none, no count rose, so no call that failed is passed over or tried again.
+    ensures spared { is_fault result ≡ false → Spared (S.faults source.old) (S.faults source.new)
+        (W.faults sink.old) (W.faults sink.new) (K.faults keeper.old) (K.faults keeper.new) }
+
     // A good scenario is answered whole where no count rises, unless memory is wanting.
     ensures complete { (rows : Rows) → K.rows keeper.old ≡ Some rows
         → HadSurely (S.left source.old) (IsGoodScenario rows)
@@ -205,6 +217,7 @@ fn end_usage<W: Sink>(alloc: Global, sink: &mut W) -> Status
     ensures said { (rows : Rows)
         → Says (W.written sink.old) (W.written sink.new) (Some rows) (ended ends.Usage rows) result }
     ensures caused { CausedByWrites (W.faults sink.old) (W.faults sink.new) result }
+    ensures spared { SparedByWrites (W.faults sink.old) (W.faults sink.new) result }
 {
     let status = Status::Usage;
     match write_last(alloc, sink, &status) {
@@ -217,6 +230,7 @@ fn end_usage<W: Sink>(alloc: Global, sink: &mut W) -> Status
 fn end_unasked<W: Sink>(alloc: Global, sink: &mut W, fault: WordsFault) -> Status
     ensures said { EndsUnasked (W.written sink.old) (W.written sink.new) fault result }
     ensures caused { CausedByWrites (W.faults sink.old) (W.faults sink.new) result }
+    ensures spared { SparedByWrites (W.faults sink.old) (W.faults sink.new) result }
 {
     match fault {
         WordsFault::Usage => end_usage(alloc, sink),
@@ -235,6 +249,8 @@ fn do_job<S: Source, W: Sink, K: Keeper>(
     ensures said { (rows : Rows) → K.rows keeper.old ≡ Some rows
         → IsRunOf (asked_told (Some words) rows) (S.left source.old)
         (W.written sink.old) (W.written sink.new) (K.rows keeper.new) result }
+    ensures own { ¬ (words.job ≡ jobs.Replay) → (rows : Rows) → IsRunOf (asked_told (Some words) rows)
+        (S.left source.old) (W.written sink.old) (W.written sink.new) (Some rows) result }
     ensures kept { words.job ≡ jobs.Replay → (rows : Rows) → K.rows keeper.old ≡ Some rows
         → KeepsLines rows (S.left source.old) (W.written sink.old) (W.written sink.new) (K.rows keeper.new) }
     ensures keeper_spared { ¬ (words.job ≡ jobs.Replay) → keeper.new ≡ keeper.old }
@@ -246,6 +262,8 @@ fn do_job<S: Source, W: Sink, K: Keeper>(
         → ReadsNoFurther rows (S.left source.old) (S.left source.new) (W.written sink.old) (W.written sink.new) }
     ensures caused { Caused (S.faults source.old) (S.faults source.new) (W.faults sink.old) (W.faults sink.new)
         (K.faults keeper.old) (K.faults keeper.new) result }
+    ensures spared { is_fault result ≡ false → Spared (S.faults source.old) (S.faults source.new)
+        (W.faults sink.old) (W.faults sink.new) (K.faults keeper.old) (K.faults keeper.new) }
 {
     match words.job {
         Job::Replay => answer_all(alloc, source, sink, keeper),
@@ -265,6 +283,9 @@ fn obey<S: Source, W: Sink, K: Keeper>(
     ensures said { (rows : Rows) → K.rows keeper.old ≡ Some rows
         → IsRunOf (transcript (map string_bytes words.now) rows) (S.left source.old)
         (W.written sink.old) (W.written sink.new) (K.rows keeper.new) result }
+    ensures own { ¬ AskReplay (map string_bytes words.now) → (rows : Rows)
+        → IsRunOf (transcript (map string_bytes words.now) rows) (S.left source.old)
+        (W.written sink.old) (W.written sink.new) (Some rows) result }
     ensures kept { AskReplay (map string_bytes words.now) → (rows : Rows) → K.rows keeper.old ≡ Some rows
         → KeepsLines rows (S.left source.old) (W.written sink.old) (W.written sink.new) (K.rows keeper.new) }
     ensures keeper_spared { ¬ AskReplay (map string_bytes words.now) → keeper.new ≡ keeper.old }
@@ -276,6 +297,8 @@ fn obey<S: Source, W: Sink, K: Keeper>(
         → ReadsNoFurther rows (S.left source.old) (S.left source.new) (W.written sink.old) (W.written sink.new) }
     ensures caused { Caused (S.faults source.old) (S.faults source.new) (W.faults sink.old) (W.faults sink.new)
         (K.faults keeper.old) (K.faults keeper.new) result }
+    ensures spared { is_fault result ≡ false → Spared (S.faults source.old) (S.faults source.new)
+        (W.faults sink.old) (W.faults sink.new) (K.faults keeper.old) (K.faults keeper.new) }
 {
     match read_words(alloc, words) {
         Ok(asked) => do_job(alloc, asked, source, sink, keeper),
@@ -342,6 +365,10 @@ pub fn run<S: Source, W: Sink, K: Keeper>(
     ensures write_fault { result ≡ ends.WriteFault → Rose (W.faults sink.old) (W.faults sink.new) }
     ensures keep_fault { result ≡ ends.KeepFault → Rose (K.faults keeper.old) (K.faults keeper.new) }
 
+    // A fault ends the run: where it ends by none, no count rose, so no call that failed is passed over or tried again.
+    ensures spared { is_fault result ≡ false → Spared (S.faults source.old) (S.faults source.new)
+        (W.faults sink.old) (W.faults sink.new) (K.faults keeper.old) (K.faults keeper.new) }
+
     // A good scenario is answered whole, and a generated one is run or written whole, where no count rises, unless
     // memory is wanting.
     ensures complete { (rows : Rows) → K.rows keeper.old ≡ Some rows
@@ -350,6 +377,21 @@ pub fn run<S: Source, W: Sink, K: Keeper>(
         → ¬ Rose (K.faults keeper.old) (K.faults keeper.new)
         → IsWhole (transcript (map string_bytes words.now) rows) (S.left source.old)
         (W.written sink.old) (W.written sink.new) (K.rows keeper.new) result }
+
+    // Where the words do not ask for a replay, the same holds over any keeper, one that does not tell its rows too.
+    ensures own { ¬ AskReplay (map string_bytes words.now) → (rows : Rows)
+        → IsRunOf (transcript (map string_bytes words.now) rows) (S.left source.old)
+        (W.written sink.old) (W.written sink.new) (Some rows) result }
+    ensures own_good { ¬ AskReplay (map string_bytes words.now) → (rows : Rows)
+        → ComesExactly (S.left source.old) result ends.Done (AskGoodRun (map string_bytes words.now) rows) }
+    ensures own_usage { ¬ AskReplay (map string_bytes words.now)
+        → ComesExactly (S.left source.old) result ends.Usage (λ _. asked (map string_bytes words.now) ≡ None) }
+    ensures own_whole { ¬ AskReplay (map string_bytes words.now) → (rows : Rows)
+        → HadSurely (S.left source.old) (AskGoodRun (map string_bytes words.now) rows)
+        → ¬ Rose (S.faults source.old) (S.faults source.new) → ¬ Rose (W.faults sink.old) (W.faults sink.new)
+        → ¬ Rose (K.faults keeper.old) (K.faults keeper.new)
+        → IsWhole (transcript (map string_bytes words.now) rows) (S.left source.old)
+        (W.written sink.old) (W.written sink.new) (Some rows) result }
 {
     obey(alloc, words, source, sink, keeper)
 }

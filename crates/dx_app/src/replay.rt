@@ -1,13 +1,14 @@
-ghost use Rattle.std.specs.Prelude.{◌≡◌, ◌<◌, ◌≤◌, ◌+◌, ◌++◌, ◌⊎◌, OnOk, IfErr, Some};
+ghost use Rattle.std.specs.Prelude.{◌≡◌, ◌<◌, ◌≤◌, ◌+◌, ◌++◌, ◌⊎◌, false, OnOk, IfErr, Some};
 ghost use Rattle.std.specs.Io.KnownBytes.{IsAtEnd};
 ghost use Rattle.dx_io.specs.Rows.{Rows};
 ghost use Rattle.dx_types.specs.declared.status.Status.TheVariants as ends;
 ghost use Rattle.dx_cluster.specs.World.{World, StandsForSome};
 ghost use Rattle.dx_app.specs.Transcript.{Told, line_limit, ended, bad_line, line_told, rest_told};
 ghost use Rattle.dx_app.specs.Counts.{Later, Caused, CausedByStreams, CausedBehind, CausedByWrites, CausedByFault};
+ghost use Rattle.dx_app.specs.Counts.{Spared, StreamsSpared, SparedBehind, SparedByWrites};
 ghost use Rattle.dx_app.specs.Prompt.{StopsInLine, AnswersWholeLines, AnswersAllBehind};
 ghost use Rattle.dx_text.specs.Reading.{IsNear, ReadsTo};
-ghost use Rattle.dx_app.specs.Runs.{Says, AppendsLast, IsRunOf, Executes, Holds, GoesOn, IsAnswered, StopsAtLine, EndsAtLine, EndsUnserved, EndsReading};
+ghost use Rattle.dx_app.specs.Runs.{is_fault, Says, AppendsLast, IsRunOf, Executes, Holds, GoesOn, IsAnswered, StopsAtLine, EndsAtLine, EndsUnserved, EndsReading};
 
 use dx_cluster::{Cluster, StartFault};
 use dx_io::{Keeper, Sink, Source};
@@ -29,6 +30,7 @@ pub fn end_badly<W: Sink>(alloc: Global, sink: &mut W, line: u64, field: u32) ->
         → Says (W.written sink.old) (W.written sink.new) (Some rows) (bad_line line field rows) result }
     ensures later { W.faults sink.old ≤ W.faults sink.new }
     ensures caused { CausedByWrites (W.faults sink.old) (W.faults sink.new) result }
+    ensures spared { SparedByWrites (W.faults sink.old) (W.faults sink.new) result }
 {
     let status = Status::BadLine { line, field };
     match write_last(alloc, sink, &status) {
@@ -42,6 +44,7 @@ pub fn end_at_line<W: Sink>(alloc: Global, sink: &mut W, line: u64, fault: LineF
     ensures said { EndsAtLine (W.written sink.old) (W.written sink.new) line fault result }
     ensures later { W.faults sink.old ≤ W.faults sink.new }
     ensures caused { CausedByWrites (W.faults sink.old) (W.faults sink.new) result }
+    ensures spared { SparedByWrites (W.faults sink.old) (W.faults sink.new) result }
 {
     match fault {
         LineFault::Bad { field } => end_badly(alloc, sink, line, field),
@@ -54,6 +57,7 @@ pub fn end_unserved<W: Sink>(alloc: Global, sink: &mut W, fault: StartFault) -> 
     ensures said { EndsUnserved (W.written sink.old) (W.written sink.new) fault result }
     ensures later { W.faults sink.old ≤ W.faults sink.new }
     ensures caused { CausedByFault (W.faults sink.old) (W.faults sink.new) fault result }
+    ensures spared { SparedByWrites (W.faults sink.old) (W.faults sink.new) result }
 {
     let status = match fault {
         StartFault::KeptBad { node, height } => Status::KeptBad { node, height },
@@ -97,6 +101,10 @@ fn answer_line<W: Sink, K: Keeper>(
     ensures write_count { W.faults sink.old ≤ W.faults sink.new }
     ensures keep_count { K.faults keeper.old ≤ K.faults keeper.new }
     ensures caused { IfErr result (CausedBehind (W.faults sink.old) (W.faults sink.new)
+        (K.faults keeper.old) (K.faults keeper.new)) }
+    ensures good { OnOk result (SparedBehind (W.faults sink.old) (W.faults sink.new)
+        (K.faults keeper.old) (K.faults keeper.new)) }
+    ensures spared { IfErr result (λ s. is_fault s ≡ false → SparedBehind (W.faults sink.old) (W.faults sink.new)
         (K.faults keeper.old) (K.faults keeper.new)) }
 {
     let event = match read_event(alloc, line, cluster.count()) {
@@ -143,6 +151,10 @@ fn next_reply<S: Source, W: Sink, K: Keeper>(
         (K.faults keeper.old) (K.faults keeper.new) }
     ensures caused { IfErr result (Caused (S.faults source.old) (S.faults source.new)
         (W.faults sink.old) (W.faults sink.new) (K.faults keeper.old) (K.faults keeper.new)) }
+    ensures good { OnOk result (Spared (S.faults source.old) (S.faults source.new)
+        (W.faults sink.old) (W.faults sink.new) (K.faults keeper.old) (K.faults keeper.new)) }
+    ensures spared { IfErr result (λ s. is_fault s ≡ false → Spared (S.faults source.old) (S.faults source.new)
+        (W.faults sink.old) (W.faults sink.new) (K.faults keeper.old) (K.faults keeper.new)) }
 {
     let alloc = *line.allocator();
     let cut = match reader.next_line(source, line) {
@@ -162,6 +174,7 @@ fn end_long<W: Sink>(alloc: Global, sink: &mut W) -> Status
         → Says (W.written sink.old) (W.written sink.new) (Some rows) (ended ends.Long rows) result }
     ensures later { W.faults sink.old ≤ W.faults sink.new }
     ensures caused { CausedByWrites (W.faults sink.old) (W.faults sink.new) result }
+    ensures spared { SparedByWrites (W.faults sink.old) (W.faults sink.new) result }
 {
     let status = Status::Long;
     match write_last(alloc, sink, &status) {
@@ -188,6 +201,8 @@ fn end_of_lines<S: Source, W: Sink>(
     ensures write_count { W.faults sink.old ≤ W.faults sink.new }
     ensures caused { CausedByStreams (S.faults source.old) (S.faults source.new)
         (W.faults sink.old) (W.faults sink.new) result }
+    ensures spared { is_fault result ≡ false → StreamsSpared (S.faults source.old) (S.faults source.new)
+        (W.faults sink.old) (W.faults sink.new) }
 {
     let more = match reader.has_more(source) {
         Ok(more) => more,
@@ -226,6 +241,8 @@ pub fn replay_lines<S: Source, W: Sink, K: Keeper>(
         (K.faults keeper.old) (K.faults keeper.new) }
     ensures caused { Caused (S.faults source.old) (S.faults source.new) (W.faults sink.old) (W.faults sink.new)
         (K.faults keeper.old) (K.faults keeper.new) result }
+    ensures spared { is_fault result ≡ false → Spared (S.faults source.old) (S.faults source.new)
+        (W.faults sink.old) (W.faults sink.new) (K.faults keeper.old) (K.faults keeper.new) }
 {
     let mut line = Vec::new(alloc);
     'lines: for number in 2..LINES_END {

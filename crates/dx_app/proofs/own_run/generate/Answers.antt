@@ -1,4 +1,4 @@
-use Rattle.std.proofs.Common.{◌≡◌, ◌∷◌, Some, length, ap, subst, arith, rules}
+use Rattle.std.proofs.Common.{◌≡◌, ◌∷◌, ◌∙◌, Some, length, ap, subst, arith, rules}
 use Rattle.std.specs.Io.KnownBytes.{Appends}
 use Rattle.dx_text.specs.Output.{AppendsFront}
 use Rattle.dx_app.specs.Transcript.{generated, generate_told}
@@ -27,4 +27,5 @@ lines-preserved g c =
           c.next_line.new.self next wrote;
       left = omega (arith, one_less, c.lines.invariant.left);
       later = omega (arith, c.lines.invariant.later, c.write_text.ensures.later);
+      spared = c.in-Ok-write_text.ensures.good ∙ c.lines.invariant.spared;
     }

@@ -4,6 +4,7 @@ use Rattle.dx_app.proofs.Opening.{opened_world, unopened_ends, unopened_keeps, g
 use Rattle.dx_app.proofs.Kept.{unserved_last, executes_none, executes_alone, executes_then}
 use Rattle.dx_app.proofs.Counts.{caused_unopened, caused_opened, caused_greeting, caused_opening}
 use Rattle.dx_app.proofs.Prompt.{last_some, front_some, no_further, no_further_first, replies_out, replies_out_first, behind_later, whole_later}
+use Rattle.dx_app.proofs.Spared.{write_failed, unserved_spared, spared_kept, spared_unopened, spared_opened}
 use Rattle.dx_app.proofs.program.answer_all.Goals as goal
 
 pub returns-in-Err-clause-said : goal.returns-in-Err-clause-said
@@ -99,3 +100,15 @@ returns-in-Err-greet-clause-caused g c = caused_greeting _ _ _ _ _ _ _ c.in-Err-
 pub returns-clause-caused : goal.returns-clause-caused
 returns-clause-caused g c =
     caused_opened _ _ _ _ _ _ _ _ _ _ c.replay_lines.result c.in-Ok.ensures.read_count c.in-Ok.ensures.write_count c.in-Ok-open.ensures.later c.in-Ok-greet.ensures.later c.replay_lines.ensures.caused
+
+pub returns-in-Err-clause-spared : goal.returns-in-Err-clause-spared
+returns-in-Err-clause-spared g c = λ plain. spared_kept _ _ _ _ _ (c.in-Err.ensures.spared plain)
+
+pub returns-in-Err-open-clause-spared : goal.returns-in-Err-open-clause-spared
+returns-in-Err-open-clause-spared g c = λ plain. spared_unopened _ _ _ _ _ _ _ c.in-Ok.ensures.quiet (unserved_spared _ _ _ _ _ _ c.in-Err-open.fault c.end_unserved.result c.in-Err-open.ensures.still c.end_unserved.ensures.spared c.end_unserved.ensures.said plain)
+
+pub returns-in-Err-greet-clause-spared : goal.returns-in-Err-greet-clause-spared
+returns-in-Err-greet-clause-spared g c = λ plain. absurd (write_failed c.in-Err-greet.status c.in-Err-greet.ensures.fails plain)
+
+pub returns-clause-spared : goal.returns-clause-spared
+returns-clause-spared g c = λ plain. spared_opened _ _ _ _ _ _ _ _ _ _ c.in-Ok.ensures.quiet c.in-Ok-open.ensures.good c.in-Ok-greet.ensures.quiet (c.replay_lines.ensures.spared plain)

@@ -1,7 +1,8 @@
-use Rattle.std.proofs.Common.{inr}
+use Rattle.std.proofs.Common.{inr, refl}
 use Rattle.dx_app.proofs.Asked.{job_is, asked_job, unasked_run, unasked_last, asked_run}
 use Rattle.dx_app.proofs.Kept.{executes_none}
 use Rattle.dx_app.proofs.Prompt.{last_some, unread}
+use Rattle.dx_app.proofs.Spared.{spared_unread}
 use Rattle.dx_app.proofs.program.obey.Goals as goal
 
 pub returns-in-Err-clause-said : goal.returns-in-Err-clause-said
@@ -27,3 +28,12 @@ returns-in-Ok-clause-source_spared g c = λ other. c.do_job.ensures.source_spare
 
 pub returns-in-Ok-clause-done : goal.returns-in-Ok-clause-done
 returns-in-Ok-clause-done g c = λ e ask. c.do_job.ensures.done e (job_is _ c.in-Ok.asked _ c.in-Ok.ensures.read ask)
+
+pub returns-in-Err-clause-spared : goal.returns-in-Err-clause-spared
+returns-in-Err-clause-spared g c = λ plain. spared_unread _ _ _ _ c.end_unasked.result c.end_unasked.ensures.spared plain
+
+pub returns-in-Err-clause-own : goal.returns-in-Err-clause-own
+returns-in-Err-clause-own g c = λ other rows. unasked_run rows _ _ _ _ c.end_unasked.result _ c.in-Err.fault c.in-Err.ensures.usage refl c.end_unasked.ensures.said
+
+pub returns-in-Ok-clause-own : goal.returns-in-Ok-clause-own
+returns-in-Ok-clause-own g c = λ other rows. asked_run rows _ _ _ _ c.do_job.result _ c.in-Ok.asked c.in-Ok.ensures.read (c.do_job.ensures.own (λ e. other (asked_job _ c.in-Ok.asked _ c.in-Ok.ensures.read e)) rows)

@@ -1,10 +1,11 @@
 use Rattle.dx_types.specs.declared.status.Status.TheVariants as ends
-use Rattle.std.proofs.Common.{Some, ap, Err}
+use Rattle.std.proofs.Common.{Some, ap, Err, refl}
 use Rattle.std.specs.FinMap.{empty}
 use Rattle.dx_app.proofs.Runs.{run_at_fault, reading_fails}
 use Rattle.dx_app.proofs.Opening.{broken_opening, no_opening, opens, opening_ends}
 use Rattle.dx_app.proofs.Kept.{says_last, silent_last, fault_last}
 use Rattle.dx_app.proofs.Prompt.{read_failed, stops}
+use Rattle.dx_app.proofs.Spared.{reading_failed, spared_write, spared_streams}
 use Rattle.dx_app.proofs.program.open.Goals as goal
 
 pub returns-in-Err-clause-ended : goal.returns-in-Err-clause-ended
@@ -47,3 +48,18 @@ returns-clause-last g c = fault_last _ _ empty 1 c.in-Err-read_genesis.fault c.e
 
 pub returns-in-Err-clause-stops : goal.returns-in-Err-clause-stops
 returns-in-Err-clause-stops g c = λ e. stops _ _ _ _ (c.in-Err.ensures.in_line (ap Err (read_failed c.in-Err.error c.end_reading.result c.end_reading.ensures e)))
+
+pub returns-in-Err-clause-spared : goal.returns-in-Err-clause-spared
+returns-in-Err-clause-spared g c = λ plain. absurd (reading_failed c.in-Err.error c.end_reading.result c.end_reading.ensures plain)
+
+pub returns-in-Broken-clause-spared : goal.returns-in-Broken-clause-spared
+returns-in-Broken-clause-spared g c = λ plain. spared_streams _ _ _ _ c.in-Ok.ensures.good (spared_write _ _ c.end_badly.result c.end_badly.ensures.spared plain)
+
+pub returns-in-End-clause-spared : goal.returns-in-End-clause-spared
+returns-in-End-clause-spared g c = λ plain. spared_streams _ _ _ _ c.in-Ok.ensures.good (spared_write _ _ c.end_badly-in-End.result c.end_badly-in-End.ensures.spared plain)
+
+pub returns-in-Ok-read_genesis-clause-quiet : goal.returns-in-Ok-read_genesis-clause-quiet
+returns-in-Ok-read_genesis-clause-quiet g c = spared_streams _ _ _ _ c.in-Ok.ensures.good refl
+
+pub returns-clause-spared : goal.returns-clause-spared
+returns-clause-spared g c = λ plain. spared_streams _ _ _ _ c.in-Ok.ensures.good (spared_write _ _ c.end_at_line.result c.end_at_line.ensures.spared plain)

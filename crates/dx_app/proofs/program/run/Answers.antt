@@ -1,4 +1,5 @@
 use Rattle.dx_app.proofs.Caused.{run_good, run_bad, run_long, run_kept_bad, run_kept_other, run_usage, run_whole}
+use Rattle.std.specs.FinMap.{empty}
 use Rattle.dx_app.proofs.program.run.Goals as goal
 
 pub returns-clause-good : goal.returns-clause-good
@@ -21,3 +22,12 @@ returns-clause-usage g c = λ rows told. run_usage _ rows _ _ _ _ c.obey.result 
 
 pub returns-clause-complete : goal.returns-clause-complete
 returns-clause-complete g c = λ rows told. run_whole _ rows _ _ _ _ c.obey.result (c.obey.ensures.said rows told) _ _ _ c.obey.ensures.caused.read_fault c.obey.ensures.caused.write_fault c.obey.ensures.caused.keep_fault
+
+pub returns-clause-own_good : goal.returns-clause-own_good
+returns-clause-own_good g c = λ other rows. run_good _ rows _ _ _ _ c.obey.result (c.obey.ensures.own other rows)
+
+pub returns-clause-own_usage : goal.returns-clause-own_usage
+returns-clause-own_usage g c = λ other. run_usage _ empty _ _ _ _ c.obey.result (c.obey.ensures.own other empty)
+
+pub returns-clause-own_whole : goal.returns-clause-own_whole
+returns-clause-own_whole g c = λ other rows. run_whole _ rows _ _ _ _ c.obey.result (c.obey.ensures.own other rows) _ _ _ c.obey.ensures.caused.read_fault c.obey.ensures.caused.write_fault c.obey.ensures.caused.keep_fault

@@ -5,6 +5,7 @@ use Rattle.dx_app.proofs.Runs.{run_at_fault, over_ends, none_over}
 use Rattle.dx_app.proofs.Kept.{says_last, silent_last}
 use Rattle.dx_app.proofs.Prompt.{stops}
 use Rattle.dx_text.proofs.Near.{read_near, failed_near, failed_in_line}
+use Rattle.dx_app.proofs.Spared.{no_fault, spared_write, spared_streams}
 use Rattle.dx_app.proofs.replay.end_of_lines.Goals as goal
 
 pub returns-in-Err-clause-said : goal.returns-in-Err-clause-said
@@ -40,3 +41,12 @@ returns-then-more-clause-near g c = read_near _ _ _ _ c.in-Ok.ensures.on c.in-Ok
 
 pub returns-clause-near : goal.returns-clause-near
 returns-clause-near g c = read_near _ _ _ _ c.in-Ok.ensures.on c.in-Ok.ensures.few
+
+pub returns-in-Err-clause-spared : goal.returns-in-Err-clause-spared
+returns-in-Err-clause-spared g c = λ plain. absurd (no_fault ends.ReadFault ends.ReadFault refl refl plain)
+
+pub returns-then-more-clause-spared : goal.returns-then-more-clause-spared
+returns-then-more-clause-spared g c = λ plain. spared_streams _ _ _ _ c.in-Ok.ensures.good (spared_write _ _ c.end_long.result c.end_long.ensures.spared plain)
+
+pub returns-clause-spared : goal.returns-clause-spared
+returns-clause-spared g c = λ _. spared_streams _ _ _ _ c.in-Ok.ensures.good refl

@@ -4,6 +4,7 @@ use Rattle.dx_app.proofs.Runs.{run_then, run_kept, goes_on_then, goes_on_first}
 use Rattle.dx_app.proofs.Kept.{executes_then, stops_here}
 use Rattle.dx_app.proofs.Counts.{later_then, later_streams, caused_then, caused_by_streams}
 use Rattle.dx_app.proofs.Prompt.{run_some, last_some, behind_here, whole_here}
+use Rattle.dx_app.proofs.Spared.{spared_first, spared_then, spared_at_end}
 use Rattle.dx_app.proofs.replay.replay_lines.Goals as goal
 
 pub lines-init : goal.lines-init
@@ -11,6 +12,7 @@ lines-init g c = record {
   stands = c.requires;
   goes_on = λ w st. goes_on_first _ _ _ _ _ w 2 (consumes_nothing _) st;
   later = record { read_count = omega arith; write_count = omega arith; keep_count = omega arith };
+  still = spared_first _ _ _;
 }
 
 pub lines-preserved : goal.lines-preserved
@@ -18,6 +20,7 @@ lines-preserved g c = record {
   stands = c.in-Ok.ensures.stands;
   goes_on = λ w st. goes_on_then _ _ _ _ _ _ _ _ _ _ _ _ _ _ c.lines.number _ (c.lines.invariant.goes_on w st) (λ v sv. c.in-Ok.ensures.goes_on v sv);
   later = later_then _ _ _ _ _ _ _ _ _ c.lines.invariant.later c.in-Ok.ensures.later;
+  still = spared_then _ _ _ _ _ _ _ _ _ c.lines.invariant.still c.in-Ok.ensures.good;
 }
 
 pub returns-in-Err-clause-said : goal.returns-in-Err-clause-said
@@ -61,3 +64,9 @@ returns-clause-later g c = later_streams _ _ _ _ _ _ _ _ c.lines.invariant.later
 
 pub returns-clause-caused : goal.returns-clause-caused
 returns-clause-caused g c = caused_by_streams _ _ _ _ _ _ _ _ c.end_of_lines.result c.lines.invariant.later c.end_of_lines.ensures.caused
+
+pub returns-in-Err-clause-spared : goal.returns-in-Err-clause-spared
+returns-in-Err-clause-spared g c = λ plain. spared_then _ _ _ _ _ _ _ _ _ c.lines.invariant.still (c.in-Err.ensures.spared plain)
+
+pub returns-clause-spared : goal.returns-clause-spared
+returns-clause-spared g c = λ plain. spared_at_end _ _ _ _ _ _ _ _ c.lines.invariant.still (c.end_of_lines.ensures.spared plain)
