@@ -12,7 +12,7 @@ use Rattle.dx_app.specs.Counts.{Spared, StreamsSpared, SparedBehind, SparedByWri
 
 -- a status is no fault and a fault
 both_ways : true ≡ false → ⊥
-both_ways no = absurd (cc)
+both_ways clash = absurd (let both : true ≡ false = clash in cc)
 
 pub no_fault : (s t : Status) → s ≡ t → is_fault t ≡ true → is_fault s ≡ false → ⊥
 no_fault s t e fault plain = both_ways (sym fault ∙ ap is_fault (sym e) ∙ plain)
