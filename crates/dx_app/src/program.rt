@@ -168,9 +168,9 @@ pub fn replay_all<S: Source, W: Sink, K: Keeper>(
     ensures kept { (rows : Rows) → K.rows keeper.old ≡ Some rows → KeepsLines rows (S.left source.old)
         (W.written sink.old) (W.written sink.new) (K.rows keeper.new) }
 
-    // Replies keep up with the input: where a read fails, just the replies to all lines that are whole in what was taken
-    // from the source are written; and whatever ends the run, the source is read no further than one line whose reply
-    // need not be written yet, and at most one buffer.
+    // Replies keep up with the input: where a read fails, just the replies to all lines that are whole in what was
+    // taken from the source are written; and whatever ends the run, the source is read no further than one line whose
+    // reply need not be written yet, and at most one buffer.
     ensures prompt { result ≡ ends.ReadFault → (rows : Rows) → K.rows keeper.old ≡ Some rows
         → RepliesAreOut rows (S.left source.old) (S.left source.new) (W.written sink.old) (W.written sink.new) }
     ensures no_further { (rows : Rows) → K.rows keeper.old ≡ Some rows
@@ -334,9 +334,9 @@ pub fn run<S: Source, W: Sink, K: Keeper>(
     ensures keeper_spared { ¬ AskReplay (map string_bytes words.now) → keeper.new ≡ keeper.old }
     ensures source_spared { ¬ AskReplay (map string_bytes words.now) → source.new ≡ source.old }
 
-    // Replies keep up with the input: where a read fails, just the replies to all lines that are whole in what was taken
-    // from the source are written; and whatever ends the run, the source is read no further than one line whose reply
-    // need not be written yet, and at most one buffer.
+    // Replies keep up with the input: where a read fails, just the replies to all lines that are whole in what was
+    // taken from the source are written; and whatever ends the run, the source is read no further than one line whose
+    // reply need not be written yet, and at most one buffer.
     ensures prompt { result ≡ ends.ReadFault → (rows : Rows) → K.rows keeper.old ≡ Some rows
         → RepliesAreOut rows (S.left source.old) (S.left source.new) (W.written sink.old) (W.written sink.new) }
     ensures no_further { (rows : Rows) → K.rows keeper.old ≡ Some rows
