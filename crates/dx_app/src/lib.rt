@@ -19,8 +19,6 @@
 #![tactic(auto)]
 
 mod laws;
-mod lines;
-mod output;
 mod own_run;
 mod program;
 mod replay;
