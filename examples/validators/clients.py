@@ -16,7 +16,7 @@ class Clients:
 
     def opening(self, height):
         """Deposits, by which money comes in. Equal messages count as one, so each has the height in it."""
-        amounts = {owner: 10_000_000 if owner in self.SMALL else 10_000_000_000 for owner in self.OWNERS}
+        amounts = {owner: 3_000_000 if owner in self.SMALL else 10_000_000_000 for owner in self.OWNERS}
         return [["message", [1, [owner, 0], amount + height]] for owner, amount in amounts.items()]
 
     def order(self, height, number, flags=0):
@@ -33,7 +33,7 @@ class Clients:
 
     def orders(self, height, count):
         """Some orders for the block of a height, one of them a stateful one, which stands or waits."""
-        for number in range(count):
+        for number in range(count if self.markets else 0):
             if number % 15 < 14:
                 yield ["place", self.order(height, number)]
                 continue
@@ -47,7 +47,7 @@ class Clients:
         paying, paid = self.random.sample(self.OWNERS, 2)
         yield ["message", self.random.choice([[2, [paying, 0], height], [3, [paying, 0], [paid, 0], height]])]
         name = [self.random.choice(self.OWNERS), 0, (height - 1) * 1_000 + self.random.randrange(9)]
-        yield ["cancel", [*name, self.random.randrange(len(self.markets))], height + 5]
+        yield ["cancel", [*name, self.random.randrange(max(1, len(self.markets)))], height + 5]
         if len(self.standing) > 5:
             yield ["message", [5, self.standing.pop(0)]]
 

@@ -125,15 +125,15 @@ class Validator(threading.Thread):
     def begin(self):
         """Starts from the database of its folder, and asks for the log from there on."""
         options = self.options
-        text = json.dumps(options.genesis)
-        if self.number is not None:
-            self.engine.put_first("genesis", text)
-        if self.engine.get("genesis")[0] != text.encode():
+        genesis, (held, _) = json.dumps(options.genesis).encode(), self.engine.get("genesis")
+        if held != genesis and (held or self.number is None):
             raise Stop("the log has no genesis yet, or another one")
         height, body = last_row(self.folder) or (0, None)
         if body != (self.engine.get(f"block/{height}")[0] if height else None):
             raise Stop(f"block/{height} of the log is not the last block of {self.folder}: it is another log")
         self.node = Node(options.program, self.folder, options.genesis)
+        if not held and not self.engine.put_first("genesis", genesis) and self.engine.get("genesis")[0] != genesis:
+            raise Stop("the log has got another genesis")
         self.height, self.time = self.node.height, options.genesis[2]
         self.keep_digest()
         revision = self.engine.get(f"block/{max(1, height - BLOCKS_SEEN)}")[1]
@@ -404,9 +404,13 @@ def options_of(words):
     options.program = options.program.resolve()
     if not options.program.exists():
         raise Stop(f"there is no {options.program}: .ci/run builds it, and --program names another one")
-    with options.genesis.open() as scenario:
-        options.genesis = json.loads(scenario.readline())
-    options.genesis[1] = 1
+    try:
+        word, _, *numbers = json.loads(options.genesis.read_text().partition("\n")[0])
+        if word != "genesis" or not isinstance(numbers[4], list):
+            raise ValueError(f"it begins with {word!r}")
+    except (ValueError, LookupError, TypeError) as error:
+        raise Stop(f"{options.genesis} does not begin with a genesis line: {error}") from error
+    options.genesis = [word, 1, *numbers]
     return options
 
 
