@@ -14,6 +14,7 @@ use Rattle.dx_app.specs.Runs.{Says, IsRunOf, AppendsLast, Holds, GoesOn, EndsRea
 use Rattle.dx_app.specs.Prompt.{AppendsSome, StopsInLine, HasAnswered, AnswersWholeLines, AnswersAllBehind, RepliesAreOut, ReadsNoFurther}
 use Rattle.dx_text.specs.Reading.{HasNoNewline, IsNear, ReadsTo}
 use Rattle.dx_text.proofs.Outputs.{appends_nothing, appends_then, consumes_nothing, consumes_then}
+use Rattle.dx_text.proofs.Near.{ahead_near}
 use Rattle.dx_app.proofs.Runs.{lines_at_hand, nothing_told}
 use Rattle.dx_app.proofs.Kept.{says_front, alone_is}
 

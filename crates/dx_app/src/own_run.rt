@@ -1,3 +1,5 @@
+//! The two jobs over a generated scenario: it is written, or it is run and only a digest of its replies is written.
+
 ghost use Rattle.std.specs.Prelude.{◌≡◌, ◌+◌, ◌*◌, ◌/◌, Some, IfSome};
 ghost use Rattle.dx_io.specs.Causes.{Rose};
 ghost use Rattle.dx_io.specs.Rows.{Rows};

@@ -1,3 +1,5 @@
+//! The program's two calls: a run by its words, and the replay of an input.
+
 ghost use Rattle.std.specs.Prelude.{◌≡◌, ◌≤◌, ◌⊎◌, ℕ, List, [], ◌++◌, false, MatchResult, OnOk, IfOk, IfErr, None, Some, map, string_bytes};
 ghost use Rattle.std.specs.Io.KnownBytes.{Appends, IsAtEnd};
 ghost use Rattle.dx_io.specs.Causes.{Rose};

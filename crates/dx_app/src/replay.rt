@@ -1,3 +1,5 @@
+//! The lines of an input: each is read, executed and answered before the next one is executed.
+
 ghost use Rattle.std.specs.Prelude.{◌≡◌, ◌<◌, ◌≤◌, ◌+◌, ◌++◌, ◌⊎◌, false, OnOk, IfErr, Some};
 ghost use Rattle.std.specs.Io.KnownBytes.{IsAtEnd};
 ghost use Rattle.dx_io.specs.Rows.{Rows};
